@@ -1,0 +1,15 @@
+pub mod Limits
+pub mod Below
+pub mod Span
+pub mod Rows
+pub mod Keys
+pub mod Table
+pub mod Grow
+pub mod Join
+pub mod Plain
+pub mod Weighted
+pub mod Demand
+pub mod Upkeep
+pub mod Numbers
+pub mod Calls
+pub mod Sums
