@@ -1,0 +1,196 @@
+// The keys of a general node: L, R and all sums l + r, ascending, each once. One law serves the check and the making of a
+// row of keys: from past a key on, the least of the sums is the next key.
+use paper::KEY_LIMIT;
+use paper::Node;
+ghost use mathlib.Core.Path.{_≡_};
+ghost use mathlib.Core.Bool.{true};
+ghost use Prim.Native.Nat.{ℕ, suc, _+_, _*_, _<_, _≤_, _^_, min};
+ghost use lib.ListN.{length, getD};
+ghost use lib.Seq.{paste};
+ghost use Rattle.paper.specs.Limits.{mulLimit};
+ghost use Rattle.paper.specs.Rows.{conLen, conVal, valueAt};
+ghost use Rattle.paper.specs.Keys.{nodeKeys, rowIs};
+ghost use Rattle.keys.specs.Least.{pickOf, leastAll, firstFrom, Under, Mono, pickedAt};
+
+// Above every sum of two products of a multiplier and a word.
+pub const NONE: usize = 4611686018427387904;
+
+// x, if it is at least a and below best; else best.
+pub fn pick(a: usize, x: usize, best: usize) -> usize
+    ensures { λ r. ⌜ r ≡ pickOf a x best ⌝ }
+{
+    if a <= x {
+        if x < best { x } else { best }
+    } else {
+        best
+    }
+}
+
+// The least of best and the sums l + r that are at least a, over the values r of one node.
+pub fn least_row(keys: &[u32], r: Node, m: usize, l: usize, a: usize, best: usize) -> usize
+    requires { ⌜ (m ≤ mulLimit) × (l < 2 ^ 48) ⌝ }
+    ensures { λ x. ⌜ x ≡ leastAll (conLen r) (λ j. l + conVal (now (keys .entry)) r m j) a best ⌝ }
+{
+    let n = rows::con_len(r);
+    let mut b = best;
+    let mut j = 0;
+    while j < n {
+        let v = rows::value_at(keys, r, j);
+        b = pick(a, l + m * v, b);
+        j += 1;
+    }
+    b
+}
+
+// The same over every l and r, whatever their order: |L| * |R| steps.
+fn first_key_any(keys: &[u32], l: Node, lm: usize, r: Node, rm: usize, a: usize) -> usize
+    requires { ⌜ (lm ≤ mulLimit) × (rm ≤ mulLimit) ⌝ }
+    ensures { λ x. ⌜ x ≡ firstFrom a (nodeKeys (now (keys .entry)) l lm r rm) ⌝ }
+{
+    let n = rows::con_len(l);
+    let mut b = least_row(keys, r, rm, 0, a, NONE);
+    let mut i = 0;
+    while i < n {
+        let x = lm * rows::value_at(keys, l, i);
+        b = least_row(keys, r, rm, x, a, pick(a, x, b));
+        i += 1;
+    }
+    b
+}
+
+// Whether a node's values do not fall.
+fn ascending(keys: &[u32], n: Node) -> bool
+    ensures { λ x. ⌜ (x ≡ true → Mono (conLen n) (λ k. valueAt (now (keys .entry)) n k)) ⌝ }
+{
+    let c = rows::con_len(n);
+    let mut ok = true;
+    let mut last = 0;
+    let mut i = 0;
+    while i < c {
+        let v = rows::value_at(keys, n, i);
+        ok = ok & (last <= v);
+        last = v;
+        i += 1;
+    }
+    ok
+}
+
+// Goes back from j while x + r is at least a.
+fn back(keys: &[u32], r: Node, m: usize, x: usize, a: usize, j: usize) -> usize
+    requires { ⌜ (m ≤ mulLimit) × (x < 2 ^ 48) ⌝ }
+    ensures { λ t. ⌜ (t ≤ j) × ((k : ℕ) → t ≤ k → k < j → a ≤ x + conVal (now (keys .entry)) r m k) × ((k : ℕ) → suc k ≡ t → x + conVal (now (keys .entry)) r m k < a) ⌝ }
+{
+    let mut t = j;
+    while 0 < t {
+        let v = rows::value_at(keys, r, t - 1);
+        if x + m * v < a {
+            return t;
+        }
+        t -= 1;
+    }
+    0
+}
+
+// best, or the sum at j if there is one there and it is better.
+fn pick_at(keys: &[u32], r: Node, m: usize, x: usize, a: usize, best: usize, j: usize) -> usize
+    requires { ⌜ (m ≤ mulLimit) × (x < 2 ^ 48) ⌝ }
+    ensures { λ t. ⌜ t ≡ pickedAt (conLen r) (λ k. x + conVal (now (keys .entry)) r m k) a best j ⌝ }
+{
+    let n = rows::con_len(r);
+    if j < n {
+        let v = rows::value_at(keys, r, j);
+        pick(a, x + m * v, best)
+    } else {
+        best
+    }
+}
+
+// The same where the values do not fall: j only goes back, so |L| + |R| steps.
+fn first_key_sorted(keys: &[u32], l: Node, lm: usize, r: Node, rm: usize, a: usize) -> usize
+    requires { ⌜ (lm ≤ mulLimit) × (rm ≤ mulLimit) ⌝ }
+    requires { ⌜ (Mono (conLen l) (λ k. valueAt (now keys) l k)) × (Mono (conLen r) (λ k. valueAt (now keys) r k)) ⌝ }
+    ensures { λ x. ⌜ x ≡ firstFrom a (nodeKeys (now (keys .entry)) l lm r rm) ⌝ }
+{
+    let n = rows::con_len(l);
+    let mut j = back(keys, r, rm, 0, a, rows::con_len(r));
+    let mut b = pick_at(keys, r, rm, 0, a, NONE, j);
+    let mut i = 0;
+    while i < n {
+        let x = lm * rows::value_at(keys, l, i);
+        j = back(keys, r, rm, x, a, j);
+        b = pick_at(keys, r, rm, x, a, pick(a, x, b), j);
+        i += 1;
+    }
+    b
+}
+
+// The first key at least a, or NONE: the least number at least a among L, R and all sums. In a checked table the values ascend.
+pub fn first_key(keys: &[u32], l: Node, lm: usize, r: Node, rm: usize, a: usize) -> usize
+    requires { ⌜ (lm ≤ mulLimit) × (rm ≤ mulLimit) ⌝ }
+    ensures { λ x. ⌜ x ≡ firstFrom a (nodeKeys (now (keys .entry)) l lm r rm) ⌝ }
+{
+    if ascending(keys, l) {
+        if ascending(keys, r) {
+            return first_key_sorted(keys, l, lm, r, rm, a);
+        }
+    }
+    first_key_any(keys, l, lm, r, rm, a)
+}
+
+// The row has exactly the node's keys, each within the limit.
+pub fn general_keys_ok(keys: &[u32], n: Node, l: Node, r: Node) -> bool
+    requires { ⌜ (n .lmul ≤ mulLimit) × (n .rmul ≤ mulLimit) ⌝ }
+    ensures { λ x. ⌜ x ≡ rowIs (now (keys .entry)) (n .first) (n .count) (nodeKeys (now (keys .entry)) l (n .lmul) r (n .rmul)) ⌝ }
+{
+    let lm = n.lmul;
+    let rm = n.rmul;
+    let first = n.first;
+    let count = n.count;
+    let mut ok = true;
+    let mut a = 0;
+    let mut i = 0;
+    while i < count {
+        let x = first_key(keys, l, lm, r, rm, a);
+        let k = rows::word_from(keys, first, i);
+        ok = ok & ((k == x) & (k <= KEY_LIMIT));
+        a = x + 1;
+        i += 1;
+    }
+    let past = first_key(keys, l, lm, r, rm, a);
+    ok & (past == NONE)
+}
+
+// How many keys there are, at most top.
+pub fn count_keys(keys: &[u32], l: Node, lm: usize, r: Node, rm: usize, top: usize) -> usize
+    requires { ⌜ (lm ≤ mulLimit) × (rm ≤ mulLimit) ⌝ }
+    ensures { λ x. ⌜ x ≡ min (length (nodeKeys (now (keys .entry)) l lm r rm)) top ⌝ }
+{
+    let mut a = 0;
+    let mut i = 0;
+    while i < top {
+        let x = first_key(keys, l, lm, r, rm, a);
+        if x == NONE {
+            return i;
+        }
+        a = x + 1;
+        i += 1;
+    }
+    top
+}
+
+// Writes the first count keys at place at on.
+pub fn write_keys(keys: &mut [u32], l: Node, lm: usize, r: Node, rm: usize, at: usize, count: usize)
+    requires { ⌜ (lm ≤ mulLimit) × (rm ≤ mulLimit) ⌝ }
+    requires { ⌜ (at + count ≤ length (now keys)) × (Under l at) × (Under r at) ⌝ }
+    requires { ⌜ (count ≤ length (nodeKeys (now keys) l lm r rm)) × ((i : ℕ) → i < count → getD (nodeKeys (now keys) l lm r rm) i 0 < 2 ^ 32) ⌝ }
+    ensures { λ x. ⌜ now (keys .exit) ≡ paste (now (keys .entry)) at (nodeKeys (now (keys .entry)) l lm r rm) count ⌝ }
+{
+    let mut a = 0;
+    let mut i = 0;
+    while i < count {
+        let x = first_key(keys, l, lm, r, rm, a);
+        keys[at + i] = x as u32;
+        a = x + 1;
+        i += 1;
+    }
+}
