@@ -1,0 +1,3 @@
+pub mod Ranges
+pub mod Plan
+pub mod Laws

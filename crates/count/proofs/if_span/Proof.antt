@@ -1,0 +1,49 @@
+use Rattle.paper.specs.Plain.{ifSpan}
+use native.Mathlib.Omega.{arith}
+use Rattle.count.proofs.Ranges.{span-eq}
+use borrow.Author.Needs.{needs}
+use Rattle.count.proofs.if_span.Statement.{statement}
+use Rattle.count.proofs.if_span.Tie as tie
+
+-- src/lib.rt:151:13
+add-x : tie.Need-add-x
+add-x c = search needs
+
+-- src/lib.rt:151:28
+add-min : tie.Need-add-min
+add-min c = search needs
+
+-- src/lib.rt:151:21
+min-requires : tie.Need-min-requires
+min-requires c κs = search needs
+
+-- src/lib.rt:151:13
+sub-x : tie.Need-sub-x
+sub-x c = search needs
+
+-- src/lib.rt:152:21
+add-min-2 : tie.Need-add-min-2
+add-min-2 c = search needs
+
+-- src/lib.rt:152:9
+min-requires-2 : tie.Need-min-requires-2
+min-requires-2 c κs = search needs
+
+-- src/lib.rt:154:9
+returns : tie.Need-returns
+unfolding ifSpan
+returns c = span-eq (omega arith) (omega arith)
+
+-- src/lib.rt:156:18
+sub-t8 : tie.Need-sub-t8
+sub-t8 c = search needs
+
+-- src/lib.rt:147:1
+returns-2 : tie.Need-returns-2
+unfolding ifSpan
+returns-2 c = span-eq (cc) (cc)
+
+pub if-span-spec : {M : Type 1} → statement M
+if-span-spec =
+    tie.close
+    (tie.spec add-x add-min min-requires sub-x add-min-2 min-requires-2 returns sub-t8 returns-2)

@@ -1,0 +1,223 @@
+// The call that adds an inner node: it decides first, over rows that it only reads, and then writes.
+use paper::Added;
+use paper::CELL_LIMIT;
+use paper::Counters;
+use paper::DEPTH_LIMIT;
+use paper::KEY_LIMIT;
+use paper::MUL_LIMIT;
+use paper::Node;
+use paper::Pair;
+use paper::Planned;
+use paper::Refusal;
+use paper::Sizes;
+ghost use mathlib.Core.Path.{_≡_};
+ghost use Prim.Native.Nat.{_+_, _≤_};
+ghost use lib.ListN.{length, replicate};
+ghost use lib.IntN.{pos};
+ghost use lib.Seq.{paste};
+ghost use Rattle.paper.specs.Limits.{cellLimit, mulLimit};
+ghost use Rattle.paper.specs.Rows.{conLen};
+ghost use Rattle.paper.specs.Join.{countUp, roomFor, mulsOk, fitPlan, unitPlan, generalPlan, innerPlan, innerAdded, innerNodes, innerKeys, innerLits, innerMarks, newKeys};
+ghost use Rattle.join.specs.Ready.{RowReady};
+
+pub fn room(c: Counters, count: usize, s: Sizes) -> bool
+    ensures { λ r. ⌜ r ≡ roomFor c count s ⌝ }
+{
+    grow::room_for_node(c.nodes, s.nodes)
+        & table::fits_in(c.cells, count, CELL_LIMIT)
+        & table::fits_in(c.cells, count, s.keys)
+        & table::fits_in(c.cells, count, s.lits)
+        & table::fits_in(c.cells, count, s.marks)
+}
+
+pub fn muls_ok(j: Pair, plain: bool) -> bool
+    ensures { λ r. ⌜ r ≡ mulsOk j plain ⌝ }
+{
+    (1 <= j.lmul)
+        & (j.lmul <= MUL_LIMIT)
+        & (1 <= j.rmul)
+        & (j.rmul <= MUL_LIMIT)
+        & (!plain | (j.lmul != j.rmul) | (j.lmul == 1))
+}
+
+// Depth, then room.
+fn fit_plan(kind: usize, j: Pair, l: Node, r: Node, c: Counters, count: usize, s: Sizes) -> Planned
+    ensures { λ x. ⌜ x ≡ fitPlan kind j l r c count s ⌝ }
+{
+    let d = rows::larger(l.depth, r.depth);
+    if DEPTH_LIMIT <= d {
+        return Planned::Reject(Refusal::TooDeep);
+    }
+    if room(c, count, s) {
+        Planned::Make(Node {
+            kind,
+            left: j.left,
+            lmul: j.lmul,
+            right: j.right,
+            rmul: j.rmul,
+            first: c.cells,
+            count,
+            depth: d + 1,
+        })
+    } else {
+        Planned::Reject(Refusal::NoRoom)
+    }
+}
+
+fn unit_plan(j: Pair, l: Node, r: Node, c: Counters, s: Sizes) -> Planned
+    requires { ⌜ (conLen l ≤ cellLimit) × (conLen r ≤ cellLimit) ⌝ }
+    ensures { λ x. ⌜ x ≡ unitPlan j l r c s ⌝ }
+{
+    let count = rows::con_len(l) + rows::con_len(r);
+    fit_plan(1, j, l, r, c, count, s)
+}
+
+// 8, 9, then the fit. A count of more cells than are left is told by one more than those.
+fn general_plan(keys: &[u32], j: Pair, l: Node, r: Node, c: Counters, s: Sizes) -> Planned
+    requires { ⌜ (j .lmul ≤ mulLimit) × (j .rmul ≤ mulLimit) × (c .cells ≤ cellLimit) ⌝ }
+    ensures { λ x. ⌜ x ≡ generalPlan (now (keys .entry)) j l r c s ⌝ }
+{
+    let lm = j.lmul;
+    let rm = j.rmul;
+    let least = keys::first_key(keys, l, lm, r, rm, 0);
+    if least == keys::NONE {
+        return Planned::Reject(Refusal::NoValue);
+    }
+    let above = keys::first_key(keys, l, lm, r, rm, KEY_LIMIT + 1);
+    if above != keys::NONE {
+        return Planned::Reject(Refusal::KeyTooLarge);
+    }
+    let top = CELL_LIMIT - c.cells + 1;
+    let count = keys::count_keys(keys, l, lm, r, rm, top);
+    fit_plan(2, j, l, r, c, count, s)
+}
+
+fn inner_plan(
+    nodes: &[u32],
+    inputs: &[i32],
+    keys: &[u32],
+    lits: &[i32],
+    marks: &[u8],
+    clauses: usize,
+    c: Counters,
+    j: Pair,
+) -> Planned
+    ensures { λ x. ⌜ x ≡ innerPlan (now (nodes .entry)) (now (inputs .entry)) (now (keys .entry)) (now (lits .entry)) (now (marks .entry)) clauses c j ⌝ }
+{
+    if !table::table_ok(nodes, inputs, keys, lits, marks, clauses, c) {
+        return Planned::Reject(Refusal::TableFails);
+    }
+    if (c.nodes <= j.left) | (c.nodes <= j.right) {
+        return Planned::Reject(Refusal::NoSuchNode);
+    }
+    let l = rows::node_at(nodes, j.left);
+    let r = rows::node_at(nodes, j.right);
+    let plain = (l.kind != 2) & (r.kind != 2);
+    if !muls_ok(j, plain) {
+        return Planned::Reject(Refusal::BadMultiplier);
+    }
+    let s = Sizes {
+        nodes: nodes.len(),
+        keys: keys.len(),
+        lits: lits.len(),
+        marks: marks.len(),
+    };
+    if plain & (j.lmul == j.rmul) {
+        unit_plan(j, l, r, c, s)
+    } else {
+        general_plan(keys, j, l, r, c, s)
+    }
+}
+
+fn write_count(keys: &mut [u32], at: usize, count: usize)
+    requires { ⌜ (at + count ≤ length (now keys)) × (count ≤ cellLimit) ⌝ }
+    ensures { λ x. ⌜ now (keys .exit) ≡ paste (now (keys .entry)) at (countUp count) count ⌝ }
+{
+    let mut i = 0;
+    while i < count {
+        keys[at + i] = (i + 1) as u32;
+        i += 1;
+    }
+}
+
+fn clear_lits(lits: &mut [i32], at: usize, count: usize)
+    requires { ⌜ at + count ≤ length (now lits) ⌝ }
+    ensures { λ x. ⌜ now (lits .exit) ≡ paste (now (lits .entry)) at (replicate count (pos 0)) count ⌝ }
+{
+    let mut i = 0;
+    while i < count {
+        lits[at + i] = 0;
+        i += 1;
+    }
+}
+
+fn clear_marks(marks: &mut [u8], at: usize, count: usize)
+    requires { ⌜ at + count ≤ length (now marks) ⌝ }
+    ensures { λ x. ⌜ now (marks .exit) ≡ paste (now (marks .entry)) at (replicate count 0) count ⌝ }
+{
+    let mut i = 0;
+    while i < count {
+        marks[at + i] = 0;
+        i += 1;
+    }
+}
+
+// The new node's keys.
+fn write_row(nodes: &[u32], keys: &mut [u32], n: Node)
+    requires { ⌜ RowReady (now nodes) (now keys) n ⌝ }
+    ensures { λ x. ⌜ now (keys .exit) ≡ paste (now (keys .entry)) (n .first) (newKeys (now (nodes .entry)) (now (keys .entry)) n) (n .count) ⌝ }
+{
+    let first = n.first;
+    let count = n.count;
+    let k = n.kind;
+    if k == 1 {
+        write_count(keys, first, count);
+    } else {
+        let l = rows::node_at(nodes, n.left);
+        let r = rows::node_at(nodes, n.right);
+        keys::write_keys(keys, l, n.lmul, r, n.rmul, first, count);
+    }
+}
+
+pub fn inner(
+    nodes: &mut [u32],
+    inputs: &[i32],
+    keys: &mut [u32],
+    lits: &mut [i32],
+    marks: &mut [u8],
+    clauses: usize,
+    c: Counters,
+    j: Pair,
+) -> Added
+    ensures { λ x. ⌜ (x ≡ innerAdded (innerPlan (now (nodes .entry)) (now (inputs .entry)) (now (keys .entry)) (now (lits .entry)) (now (marks .entry)) clauses c j) c)
+        × (now (nodes .exit) ≡ innerNodes (innerPlan (now (nodes .entry)) (now (inputs .entry)) (now (keys .entry)) (now (lits .entry)) (now (marks .entry)) clauses c j) (now (nodes .entry)) c)
+        × (now (keys .exit) ≡ innerKeys (innerPlan (now (nodes .entry)) (now (inputs .entry)) (now (keys .entry)) (now (lits .entry)) (now (marks .entry)) clauses c j) (now (nodes .entry)) (now (keys .entry)))
+        × (now (lits .exit) ≡ innerLits (innerPlan (now (nodes .entry)) (now (inputs .entry)) (now (keys .entry)) (now (lits .entry)) (now (marks .entry)) clauses c j) (now (lits .entry)))
+        × (now (marks .exit) ≡ innerMarks (innerPlan (now (nodes .entry)) (now (inputs .entry)) (now (keys .entry)) (now (lits .entry)) (now (marks .entry)) clauses c j) (now (marks .entry))) ⌝ }
+{
+    let p = inner_plan(nodes, inputs, keys, lits, marks, clauses, c, j);
+    match p {
+        Planned::Reject(why) => Added::Refused(why),
+        Planned::Make(n) => {
+            let first = n.first;
+            let count = n.count;
+            let id = c.nodes;
+            write_row(nodes, keys, n);
+            clear_lits(lits, first, count);
+            clear_marks(marks, first, count);
+            grow::put_node(nodes, id, n);
+            Added::Done(
+                id,
+                Counters {
+                    first: c.first,
+                    next: c.next,
+                    last: c.last,
+                    nodes: id + 1,
+                    inputs: c.inputs,
+                    cells: first + count,
+                    words: c.words,
+                },
+            )
+        }
+    }
+}

@@ -1,0 +1,5 @@
+pub mod Rel
+pub mod Counts
+pub mod Dry
+pub mod Met
+pub mod Used
