@@ -2,4 +2,9 @@ pub mod Facts
 pub mod Members
 pub mod Carry
 pub mod Words
+pub mod Pastes
 pub mod Add
+pub mod Plans
+pub mod Grown
+pub mod Taken
+pub mod Kept

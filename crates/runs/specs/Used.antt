@@ -2,9 +2,13 @@
 use mathlib.Core.Path.{_≡_, refl, sym, ap, ap₂, _∙_, subst}
 use mathlib.Core.List.{List, _++_}
 use mathlib.Core.Logic.{_⊎_, ⊎-elim}
-use Prim.Native.Nat.{ℕ, zero, suc, _+_, _*_, _/_, _≤_, _<_, _^_}
+use Prim.Native.Nat.{ℕ, zero, suc, _+_, _*_, _/_, _≤_, _<_, _^_, max}
 use native.Mathlib.Omega.{arith}
-use borrow.Author.Tests.{ne-eqb}
+use borrow.Author.Tests.{ne-eqb, leb-true}
+use mathlib.Core.Bool.{true}
+use lib.Dec.{leb}
+use Rattle.paper.specs.Below.{and-left, and-right}
+use Rattle.paper.specs.Table.{workOk}
 use lib.IntN.{ℤ, pos, negsuc, negℤ, natAbs}
 use lib.ListN.{length, getD, take, drop}
 use lib.ListN.{take-append-drop}
@@ -100,3 +104,12 @@ module _ (nodes : List ℕ) {inputs : List ℤ} {keys : List ℕ} {lits : List �
 pub back : {A : Type 0} (r : Demanded) (n : ℕ) (old new part : List A) → part ≡ demandedRow r (take n old) new → part ++ drop n old ≡ demandedRow r old (new ++ drop n old)
 back {A} (Given z c) n old new part e = ap (λ (l : List A). l ++ drop n old) e
 back {A} (NotGiven why) n old new part e = ap (λ (l : List A). l ++ drop n old) e ∙ take-append-drop n old
+
+-- a working area that is long enough holds the cells in use
+pub work-long : (ints bytes : ℕ) (c : Counters) → workOk ints bytes c ≡ true → (c .cells ≤ ints) × (c .cells ≤ bytes)
+unfolding workOk
+work-long ints bytes c h =
+    let m = max (c .cells) (c .nodes) in
+    let a : max (c .cells) (c .nodes) ≤ ints = leb-true _ _ (and-left (leb m ints) (leb m bytes) h) in
+    let b : max (c .cells) (c .nodes) ≤ bytes = leb-true _ _ (and-right (leb m ints) (leb m bytes) h) in
+    (omega arith, omega arith)

@@ -1,0 +1,170 @@
+-- What a table that passes its check gives to a weighted run, and the answers by the tests that lead there.
+use mathlib.Core.Path.{_≡_, refl, sym, ap, ap₂, _∙_}
+use mathlib.Core.Bool.{true, false}
+use mathlib.Core.List.{List, _++_}
+use Prim.Native.Nat.{ℕ, _+_, _/_, _≤_, _<_, _^_, max}
+use native.Mathlib.Omega.{arith}
+use borrow.Author.Tests.{lt-ltb, le-ltb, leb-true}
+use lib.Dec.{leb}
+use lib.IntN.{ℤ}
+use lib.ListN.{length, drop}
+use lib.Seq.{sets}
+use Rattle.paper.specs.Limits.{nodeWords}
+use Rattle.paper.specs.Below.{and-left, and-right}
+use Rattle.paper.specs.Rows.{nodeAt, conLits}
+use Rattle.paper.specs.Table.{tableOk, workOk}
+use Rattle.paper.specs.Plain.{St, litAt}
+use Rattle.paper.specs.Weighted.{outputOf, placeOf, weigh, weighRun}
+use Rattle.paper.specs.Demand.{nodesUsed, inputsUsed, cellsUsed, roomOf, demandedOf, demandedRow, sumPlace, sumRun, sumOf, demandedLits, demandedMarks, demandedClauses}
+use Rattle.paper.specs.declared.Node.{Node}
+use Rattle.paper.specs.declared.Counters.{Counters}
+use Rattle.paper.specs.declared.Run.{Run}
+use Rattle.paper.specs.declared.Found.{Found}
+use Rattle.paper.specs.declared.Found.the-variants.{At, Absent}
+use Rattle.paper.specs.declared.Refusal.the-variants.{NoSuchOutput, TableFails, WorkShort, NoSuchNode}
+use Rattle.paper.specs.declared.Demanded.{Demanded}
+use Rattle.paper.specs.declared.Demanded.the-variants.{NotGiven}
+use Rattle.facts.specs.Facts.{TableFacts, NodeFactsAt, a-leaf, a-dummy, a-unit, a-general, used-length}
+use Rattle.runs.specs.Used.{runOf, nodes-length, same-node, fit-of, back}
+use Rattle.runs.specs.Counts.{weighing, weighing-runs}
+use Rattle.runs.specs.Dry.{dryRun, Known, Real, dry-ends, known, real-ends, real}
+use Rattle.clause.specs.Row.{lay}
+use Rattle.count.specs.Run.{Here, state, Ends}
+use Rattle.find.proofs.Laws.{output-place}
+use Rattle.sum.specs.Ways.{GeneralOk, Generals}
+use Rattle.sum.proofs.Laws.{outs-few}
+use Rattle.sums.specs.Ready.{Ready, MetSum}
+
+-- ---- what a run asks
+
+module _ (nodes : List ℕ) {inputs : List ℤ} {keys : List ℕ} {lits : List ℤ} {marks : List ℕ} {clauses : ℕ} {c : Counters}
+    (t : TableFacts (nodeAt nodes) (length nodes / nodeWords) inputs keys lits marks clauses c) (small : clauses ≤ 2 ^ 62) where
+  generals-of : Generals (nodesUsed nodes c)
+  generals-of k h u = go (t .node k (omega (arith, nodes-length nodes t)))
+    where
+      at-kind : nodeAt nodes k .kind ≡ 2
+      at-kind = sym (ap (λ (n : Node). n .kind) (same-node nodes t k h)) ∙ u
+
+      go : NodeFactsAt (nodeAt nodes) keys marks (c .cells) k → GeneralOk (nodesUsed nodes c) k
+      go (a-leaf e f) = absurd (omega (arith, at-kind))
+      go (a-dummy e f) = absurd (omega (arith, at-kind))
+      go (a-unit e f g) = absurd (omega (arith, at-kind))
+      go (a-general e f g) =
+          let l : nodeAt nodes k .left < length (nodesUsed nodes c) / nodeWords = omega (arith, f .left-low) in
+          let few = outs-few (nodesUsed nodes c) _ _ (nodeAt nodes k .left) (fit-of nodes t small .ok) l in
+          let e = same-node nodes t k h in
+          record {
+            left-below = rw e (f .left-low);
+            right-below = rw e (f .right-low);
+            muls = rw e (record { left-some = g .lmul-low; left-small = omega (arith, g .lmul-high); right-some = g .rmul-low });
+            few = rw e (omega (arith, few, used-length (c .cells) lits (t .lit-row), t .counters .cell-limit));
+          }
+
+  pub ready-of : Ready (nodesUsed nodes c) (inputsUsed inputs c) (cellsUsed lits c) (cellsUsed marks c) clauses c
+  ready-of =
+      record {
+        fit = fit-of nodes t small;
+        generals = generals-of;
+        few = omega (arith, used-length (c .cells) lits (t .lit-row), t .counters .cell-limit);
+        words = t .counters .word-row;
+        last = t .counters .last-high;
+        next = t .counters .next-high;
+      }
+
+  -- an output that is found is there
+  pub here-at : (id v j : ℕ) → id < c .nodes → sumPlace nodes keys c id v ≡ At j → Here (nodesUsed nodes c) id j
+  here-at id v j h e =
+      let b : id < length (nodesUsed nodes c) / nodeWords = omega (arith, nodes-length nodes t) in
+      let p : j + 1 ≡ placeOf (sumPlace nodes keys c id v) = sym (ap placeOf e) in
+      record { below = b; out = rw (same-node nodes t id b) (omega (arith, p, output-place (cellsUsed keys c) (nodeAt nodes id) v)) }
+
+pub work-cells : (ints bytes : ℕ) (c : Counters) → workOk ints bytes c ≡ true → (c .cells ≤ ints) × (c .cells ≤ bytes)
+unfolding workOk
+work-cells ints bytes c h =
+    let a : max (c .cells) (c .nodes) ≤ ints = leb-true _ _ (and-left (leb (max (c .cells) (c .nodes)) ints) (leb (max (c .cells) (c .nodes)) bytes) h) in
+    let b : max (c .cells) (c .nodes) ≤ bytes = leb-true _ _ (and-right (leb (max (c .cells) (c .nodes)) ints) (leb (max (c .cells) (c .nodes)) bytes) h) in
+    (omega arith, omega arith)
+
+-- ---- the dry run, on rows that are copies, and the run in earnest
+
+module _ (ns : List ℕ) (ins : List ℤ) (keys : List ℕ) (lits wl : List ℤ) (marks wm : List ℕ) (row : List ℤ) (id y : ℕ)
+    (small : length row ≤ 2 ^ 62) (few : length lits < 2 ^ 31) (a : wl ≡ lits) (b : wm ≡ marks) where
+  pub sum-dry-ends : Ends (id + 1) (λ f. weigh lay f ns ins keys id y (state wl wm row (dryRun row)))
+  sum-dry-ends = dry-ends (weighing ns ins keys id y) (weighing-runs ns ins keys id y) (id + 1) wl wm row small (rw a few)
+
+  pub sum-known : (ls : List ℤ) (ms : List ℕ) (r : List ℤ) (d : Run) → ((f : ℕ) → id + 1 ≤ f → state ls ms r d ≡ weigh lay f ns ins keys id y (state wl wm row (dryRun row)))
+      → (n : ℕ) → 1 ≤ n → Known (weighRun ns ins keys lits marks n id y) n row r d
+  unfolding weighRun
+  sum-known ls ms r d is n h =
+      known (weighing ns ins keys id y) (weighing-runs ns ins keys id y) (id + 1) lits marks row small few ls ms r d
+      (λ f l. is f l ∙ ap₂ (λ (x : List ℤ) (z : List ℕ). weigh lay f ns ins keys id y (state x z row (dryRun row))) a b) n h
+
+module _ (ns : List ℕ) (ins : List ℤ) (keys : List ℕ) (lits : List ℤ) (marks : List ℕ) (row old : List ℤ) (id y : ℕ) (small : length old ≤ 2 ^ 62) (e : row ≡ old) (u : Run) where
+  pub sum-real-ends : u .words ≤ 2 ^ 62 → weighRun ns ins keys lits marks (u .next) id y .next ≤ 2 ^ 31 → Ends (id + 1) (λ f. weigh lay f ns ins keys id y (state lits marks row u))
+  unfolding weighRun
+  sum-real-ends h b = real-ends (weighing ns ins keys id y) (weighing-runs ns ins keys id y) (id + 1) lits marks row (rw e small) u h b
+
+  pub sum-real : (ls : List ℤ) (ms : List ℕ) (r : List ℤ) (d : Run) → u .words + length (weighRun ns ins keys lits marks (u .next) id y .out) ≤ 2 ^ 62
+      → ((f : ℕ) → id + 1 ≤ f → state ls ms r d ≡ weigh lay f ns ins keys id y (state lits marks row u)) → Real (weighRun ns ins keys lits marks (u .next) id y) u old ls ms r d
+  unfolding weighRun
+  sum-real ls ms r d h is =
+      real (weighing ns ins keys id y) (weighing-runs ns ins keys id y) (id + 1) lits marks old small u ls ms r d h
+      (λ f l. is f l ∙ ap (λ (x : List ℤ). weigh lay f ns ins keys id y (state lits marks x u)) e)
+
+-- ---- the answers
+
+module _ (nodes : List ℕ) (inputs : List ℤ) (keys : List ℕ) (lits : List ℤ) (marks : List ℕ) (clauses ints bytes : ℕ) (c : Counters) (id v : ℕ) where
+  abbrev said : Demanded
+  said = sumOf nodes inputs keys lits marks clauses ints bytes c id v
+
+  pub fails-table : tableOk nodes inputs keys lits marks clauses c ≡ false → NotGiven TableFails ≡ said
+  unfolding sumOf demandedOf
+  fails-table t = rw t
+
+  pub fails-work : tableOk nodes inputs keys lits marks clauses c ≡ true → workOk ints bytes c ≡ false → NotGiven WorkShort ≡ said
+  unfolding sumOf demandedOf
+  fails-work t w = rw (t, w)
+
+  module _ (t : tableOk nodes inputs keys lits marks clauses c ≡ true) (w : workOk ints bytes c ≡ true) where
+    pub fails-node : c .nodes ≤ id → NotGiven NoSuchNode ≡ said
+    unfolding sumOf demandedOf
+    fails-node h = rw (t, w, le-ltb id (c .nodes) h)
+
+    pub fails-output : id < c .nodes → sumPlace nodes keys c id v ≡ Absent → NotGiven NoSuchOutput ≡ said
+    unfolding sumOf demandedOf
+    fails-output h e = rw (t, w, lt-ltb id (c .nodes) h, e)
+
+    abbrev run : ℕ → St (List ℤ)
+    run j = weighRun (nodesUsed nodes c) (inputsUsed inputs c) (cellsUsed keys c) (cellsUsed lits c) (cellsUsed marks c) (c .next) id (j + 1)
+
+    pub given-at : id < c .nodes → (j : ℕ) → sumPlace nodes keys c id v ≡ At j
+        → roomOf (run j) c clauses (litAt (conLits (nodesUsed nodes c) (inputsUsed inputs c) (run j .lits) id) j) ≡ said
+    unfolding sumOf demandedOf
+    given-at h j e = rw (t, w, lt-ltb id (c .nodes) h, e)
+
+  pub run-at : (j : ℕ) → sumPlace nodes keys c id v ≡ At j
+      → weighRun (nodesUsed nodes c) (inputsUsed inputs c) (cellsUsed keys c) (cellsUsed lits c) (cellsUsed marks c) (c .next) id (j + 1) ≡ sumRun nodes inputs keys lits marks c id v
+  run-at j e = rw e
+
+-- a demand that was met, on rows whose parts in use were lent
+module _ (nodes : List ℕ) (inputs : List ℤ) (keys : List ℕ) (lits : List ℤ) (marks : List ℕ) (clauses : List ℤ) (ints bytes : ℕ) (c : Counters) (id v j : ℕ)
+    (t : tableOk nodes inputs keys lits marks (length clauses) c ≡ true) (w : workOk ints bytes c ≡ true) (h : id < c .nodes) (e : sumPlace nodes keys c id v ≡ At j)
+    (r : Demanded) (lits′ : List ℤ) (marks′ : List ℕ) (clauses′ : List ℤ)
+    (met : MetSum (nodesUsed nodes c) (inputsUsed inputs c) (cellsUsed keys c) c id j (cellsUsed lits c) (cellsUsed marks c) clauses r lits′ marks′ clauses′) where
+  abbrev ran : St (List ℤ)
+  ran = sumRun nodes inputs keys lits marks c id v
+
+  at : weighRun (nodesUsed nodes c) (inputsUsed inputs c) (cellsUsed keys c) (cellsUsed lits c) (cellsUsed marks c) (c .next) id (j + 1) ≡ ran
+  at = run-at nodes inputs keys lits marks (length clauses) ints bytes c id v j e
+
+  pub met-answer : r ≡ sumOf nodes inputs keys lits marks (length clauses) ints bytes c id v
+  met-answer = met .answer ∙ given-at nodes inputs keys lits marks (length clauses) ints bytes c id v t w h j e
+
+  pub met-lits : lits′ ++ drop (c .cells) lits ≡ demandedLits r ran lits c
+  met-lits = back r (c .cells) lits _ lits′ (met .lits-are) ∙ ap (λ (p : St (List ℤ)). demandedLits r p lits c) at
+
+  pub met-marks : marks′ ++ drop (c .cells) marks ≡ demandedMarks r ran marks c
+  met-marks = back r (c .cells) marks _ marks′ (met .marks-are) ∙ ap (λ (p : St (List ℤ)). demandedMarks r p marks c) at
+
+  pub met-clauses : clauses′ ≡ demandedClauses r ran clauses c
+  met-clauses = met .row-is ∙ ap (λ (p : St (List ℤ)). demandedClauses r p clauses c) at
