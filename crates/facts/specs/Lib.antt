@@ -8,3 +8,10 @@ pub mod Plans
 pub mod Grown
 pub mod Taken
 pub mod Kept
+pub mod Rel
+pub mod Ran
+pub mod Demands
+pub mod Keeps
+pub mod Runs
+pub mod Done
+pub mod Past

@@ -48,6 +48,19 @@ put-below ws id n j h =
     ∙ getD-set-other (w1 ws id n) (id * nodeWords + 1) j (n .left) 0 (λ e. omega arith)
     ∙ getD-set-other ws (id * nodeWords) j (n .kind) 0 (λ e. omega arith)
 
+-- .. and those after it
+pub put-above : (ws : List ℕ) (id : ℕ) (n : Node) (j : ℕ) → id * nodeWords + nodeWords ≤ j → getD (putNode ws id n) j 0 ≡ getD ws j 0
+unfolding putNode
+put-above ws id n j h =
+    getD-set-other (w7 ws id n) (id * nodeWords + 7) j (n .depth) 0 (λ e. omega arith)
+    ∙ getD-set-other (w6 ws id n) (id * nodeWords + 6) j (n .count) 0 (λ e. omega arith)
+    ∙ getD-set-other (w5 ws id n) (id * nodeWords + 5) j (n .first) 0 (λ e. omega arith)
+    ∙ getD-set-other (w4 ws id n) (id * nodeWords + 4) j (n .rmul) 0 (λ e. omega arith)
+    ∙ getD-set-other (w3 ws id n) (id * nodeWords + 3) j (n .right) 0 (λ e. omega arith)
+    ∙ getD-set-other (w2 ws id n) (id * nodeWords + 2) j (n .lmul) 0 (λ e. omega arith)
+    ∙ getD-set-other (w1 ws id n) (id * nodeWords + 1) j (n .left) 0 (λ e. omega arith)
+    ∙ getD-set-other ws (id * nodeWords) j (n .kind) 0 (λ e. omega arith)
+
 pub put-length : (ws : List ℕ) (id : ℕ) (n : Node) → length (putNode ws id n) ≡ length ws
 unfolding putNode
 put-length ws id n = simp length-set

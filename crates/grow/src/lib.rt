@@ -212,9 +212,9 @@ fn dummy_plan(
         return Choice::No(Refusal::TableFails);
     }
     let count = c.nodes;
-    let found = find_dummy(nodes, count);
-    if found < count {
-        return Choice::Old(found);
+    let there = find_dummy(nodes, count);
+    if there < count {
+        return Choice::Old(there);
     }
     if room_for_node(count, nodes.len()) {
         Choice::New

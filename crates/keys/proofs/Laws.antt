@@ -254,6 +254,14 @@ value-same d e n at i h u l = go (eqb (n .kind) 0) refl
     go true q = refl
     go false q = h (n .first + i) (let g : n .first + conLen n ≤ at = u q in omega arith)
 
+-- .. and values that do not fall there do not fall here
+pub mono-same : (d e : List ℕ) (n : Node) (at : ℕ) → ((k : ℕ) → k < at → getD d k 0 ≡ getD e k 0) → Under n at → Mono (conLen n) (λ k. valueAt e n k)
+    → Mono (conLen n) (λ k. valueAt d n k)
+mono-same d e n at h u m i k l g =
+    let p : valueAt d n i ≡ valueAt e n i = value-same d e n at i h u (omega arith) in
+    let q : valueAt d n k ≡ valueAt e n k = value-same d e n at k h u g in
+    omega (arith, m i k l g)
+
 -- two rows that agree below a place have the same keys of nodes that lie below it
 pub node-same : (d e : List ℕ) (l : Node) (lm : ℕ) (r : Node) (rm at : ℕ) → ((k : ℕ) → k < at → getD d k 0 ≡ getD e k 0) → Under l at → Under r at
     → nodeKeys d l lm r rm ≡ nodeKeys e l lm r rm

@@ -124,17 +124,36 @@ fn first_key_sorted(keys: &[u32], l: Node, lm: usize, r: Node, rm: usize, a: usi
     b
 }
 
-// The first key at least a, or NONE: the least number at least a among L, R and all sums. In a checked table the values ascend.
+// Whether neither child's values fall, as in a checked table. It is asked once a node, and the questions then go by the stairs.
+fn rising(keys: &[u32], l: Node, r: Node) -> bool
+    ensures { λ x. ⌜ (x ≡ true → (Mono (conLen l) (λ k. valueAt (now (keys .entry)) l k)) × (Mono (conLen r) (λ k. valueAt (now (keys .entry)) r k))) ⌝ }
+{
+    if ascending(keys, l) {
+        ascending(keys, r)
+    } else {
+        false
+    }
+}
+
+// The first key at least a, or NONE: the least number at least a among L, R and all sums.
+fn next_key(keys: &[u32], l: Node, lm: usize, r: Node, rm: usize, up: bool, a: usize) -> usize
+    requires { ⌜ (lm ≤ mulLimit) × (rm ≤ mulLimit) ⌝ }
+    requires { ⌜ (up ≡ true → (Mono (conLen l) (λ k. valueAt (now keys) l k)) × (Mono (conLen r) (λ k. valueAt (now keys) r k))) ⌝ }
+    ensures { λ x. ⌜ x ≡ firstFrom a (nodeKeys (now (keys .entry)) l lm r rm) ⌝ }
+{
+    if up {
+        first_key_sorted(keys, l, lm, r, rm, a)
+    } else {
+        first_key_any(keys, l, lm, r, rm, a)
+    }
+}
+
 pub fn first_key(keys: &[u32], l: Node, lm: usize, r: Node, rm: usize, a: usize) -> usize
     requires { ⌜ (lm ≤ mulLimit) × (rm ≤ mulLimit) ⌝ }
     ensures { λ x. ⌜ x ≡ firstFrom a (nodeKeys (now (keys .entry)) l lm r rm) ⌝ }
 {
-    if ascending(keys, l) {
-        if ascending(keys, r) {
-            return first_key_sorted(keys, l, lm, r, rm, a);
-        }
-    }
-    first_key_any(keys, l, lm, r, rm, a)
+    let up = rising(keys, l, r);
+    next_key(keys, l, lm, r, rm, up, a)
 }
 
 // The row has exactly the node's keys, each within the limit.
@@ -146,17 +165,18 @@ pub fn general_keys_ok(keys: &[u32], n: Node, l: Node, r: Node) -> bool
     let rm = n.rmul;
     let first = n.first;
     let count = n.count;
+    let up = rising(keys, l, r);
     let mut ok = true;
     let mut a = 0;
     let mut i = 0;
     while i < count {
-        let x = first_key(keys, l, lm, r, rm, a);
+        let x = next_key(keys, l, lm, r, rm, up, a);
         let k = rows::word_from(keys, first, i);
         ok = ok & ((k == x) & (k <= KEY_LIMIT));
         a = x + 1;
         i += 1;
     }
-    let past = first_key(keys, l, lm, r, rm, a);
+    let past = next_key(keys, l, lm, r, rm, up, a);
     ok & (past == NONE)
 }
 
@@ -165,10 +185,11 @@ pub fn count_keys(keys: &[u32], l: Node, lm: usize, r: Node, rm: usize, top: usi
     requires { ⌜ (lm ≤ mulLimit) × (rm ≤ mulLimit) ⌝ }
     ensures { λ x. ⌜ x ≡ min (length (nodeKeys (now (keys .entry)) l lm r rm)) top ⌝ }
 {
+    let up = rising(keys, l, r);
     let mut a = 0;
     let mut i = 0;
     while i < top {
-        let x = first_key(keys, l, lm, r, rm, a);
+        let x = next_key(keys, l, lm, r, rm, up, a);
         if x == NONE {
             return i;
         }
@@ -185,10 +206,11 @@ pub fn write_keys(keys: &mut [u32], l: Node, lm: usize, r: Node, rm: usize, at: 
     requires { ⌜ (count ≤ length (nodeKeys (now keys) l lm r rm)) × ((i : ℕ) → i < count → getD (nodeKeys (now keys) l lm r rm) i 0 < 2 ^ 32) ⌝ }
     ensures { λ x. ⌜ now (keys .exit) ≡ paste (now (keys .entry)) at (nodeKeys (now (keys .entry)) l lm r rm) count ⌝ }
 {
+    let up = rising(keys, l, r);
     let mut a = 0;
     let mut i = 0;
     while i < count {
-        let x = first_key(keys, l, lm, r, rm, a);
+        let x = next_key(keys, l, lm, r, rm, up, a);
         keys[at + i] = x as u32;
         a = x + 1;
         i += 1;

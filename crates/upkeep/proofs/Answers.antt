@@ -63,6 +63,7 @@ pub record Table (ns : List ℕ) (l : List ℤ) (c : Counters) : Type 0 where
   pub few : c .cells ≤ cellLimit
   pub row : c .cells ≤ length l
   pub some : 1 ≤ c .next
+  pub next-low : c .first ≤ c .next
   pub next-high : c .next ≤ c .last + 1
   pub last-high : c .last ≤ varLimit
 
@@ -78,6 +79,7 @@ table-gives ns ins keys l marks clauses c h =
       few = tf .counters .cell-limit;
       row = tf .lit-row;
       some = omega (arith, tf .counters .first-low, tf .counters .next-low);
+      next-low = tf .counters .next-low;
       next-high = tf .counters .next-high;
       last-high = tf .counters .last-high;
     }

@@ -1,4 +1,5 @@
-use Prim.Native.Nat.{ℕ, _+_, _*_}
+use Rattle.paper.specs.Limits.{mulLimit}
+use Prim.Native.Nat.{_<_, _≤_, _^_, ℕ, _+_, _*_}
 use native.Mathlib.Omega.{arith}
 use mathlib.Core.Path.{ap₂}
 use lib.ListN.{getD}
@@ -33,18 +34,21 @@ variable-requires-2 c κs = search needs
 cast-r : tie.Need-cast-r
 cast-r c = search needs
 
+-- a multiplier times a child's value
+small : (c : tie.After-variable2) → (m : ℕ) → m ≤ mulLimit → (m * c .before .before .variable .result < 2 ^ 48) × (m * c .variable2 .result < 2 ^ 48)
+small c m h = (prod-small m _ h (omega (arith, c .before .before .variable .ok)), prod-small m _ h (omega (arith, c .variable2 .ok)))
+
 mul-result : tie.Need-mul-result
-mul-result c = let s = c .before .before .before .before .before in let v = c .before .before .before in record { fits = omega (arith, prod-small (s .args .n .lmul) (v .variable .result) (s .pre .2) (omega (arith, v .variable .ok))) }
+mul-result c = let l = small (c .before) _ (c .before .before .before .before .before .pre .2) in record { fits = omega arith }
 
 mul-result-2 : tie.Need-mul-result-2
-mul-result-2 c = let s = c .before .before .before .before .before .before in let v = c .before .before in record { fits = omega (arith, prod-small (s .args .n .rmul) (v .variable2 .result) (s .pre .3) (omega (arith, v .variable2 .ok))) }
+mul-result-2 c = let r = small (c .before .before) _ (c .before .before .before .before .before .before .pre .3) in record { fits = omega arith }
 
 add-result : tie.Need-add-result
 add-result c =
-    let s = c .before .before .before .before .before .before in
-    let v = c .before .before in
-    let u = c .before .before .before .before in
-    record { fits = omega (arith, prod-small (s .args .n .lmul) (u .variable .result) (s .pre .2) (omega (arith, u .variable .ok)), prod-small (s .args .n .rmul) (v .variable2 .result) (s .pre .3) (omega (arith, v .variable2 .ok))) }
+    let l = small (c .before .before) _ (c .before .before .before .before .before .before .pre .2) in
+    let r = small (c .before .before) _ (c .before .before .before .before .before .before .pre .3) in
+    record { fits = omega arith }
 
 returns : tie.Need-returns
 returns c =

@@ -2,7 +2,7 @@ use mathlib.Core.Bool.{true}
 use mathlib.Core.Path.{_≡_, refl, sym, ap, _∙_}
 use borrow.Author.Tests.{not-true, not-false, le-ltb, lt-ltb}
 use native.Mathlib.Omega.{arith}
-use Prim.Native.Nat.{_+_, _≤_}
+use Prim.Native.Nat.{_+_, _-_, _≤_}
 use lib.ListN.{length}
 use Rattle.paper.specs.Table.{tableOk, workOk}
 use Rattle.paper.specs.Upkeep.{Stock, reservedBy, reserveOf}
@@ -32,7 +32,8 @@ enough c =
     let s = c .before .before .before .before .before .before .before .before .before .before .before .before .before .before .before .before .before .before .before .before in
     let g = fits (c .before .before .before .before .before .before .before .before .before) in
     let d = c .before .before .before .before .before .dry-run in
-    room-real (s .args .nodes .now) (s .args .lits .now) (s .args .id) (s .args .c .next) (d .result) (s .args .c .last) (g .some) (g .last-high) (g .next-high) (c .if4 .left) (d .ensures)
+    let h : d .result - 1 ≤ s .args .c .last + 1 - s .args .c .next = omega (arith, c .if4 .left) in
+    room-real (s .args .nodes .now) (s .args .lits .now) (s .args .id) (s .args .c .next) (d .result) (s .args .c .last) (g .some) (g .last-high) (g .next-high) h (d .ensures)
 
 table-ok-requires : tie.Need-table-ok-requires
 table-ok-requires c κs = search needs
