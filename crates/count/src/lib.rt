@@ -320,12 +320,12 @@ pub fn define_unweighted_rec(
         Precond::Return => run,
         Precond::Pass(child, todo) => {
             let w = todo.want;
-            let r = define_unweighted_rec(nodes, inputs, lits, marks, row, child, i, w, run);
-            encode_unweighted(nodes, inputs, lits, marks, row, id, i, todo, r)
+            let passed = define_unweighted_rec(nodes, inputs, lits, marks, row, child, i, w, run);
+            encode_unweighted(nodes, inputs, lits, marks, row, id, i, todo, passed)
         }
         Precond::Continue(rs, todo) => {
-            let r = recurse_unweighted(nodes, inputs, lits, marks, row, id, rs, run);
-            encode_unweighted(nodes, inputs, lits, marks, row, id, i, todo, r)
+            let walked = recurse_unweighted(nodes, inputs, lits, marks, row, id, rs, run);
+            encode_unweighted(nodes, inputs, lits, marks, row, id, i, todo, walked)
         }
     }
 }

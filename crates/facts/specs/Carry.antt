@@ -1,45 +1,21 @@
 -- The check of a table moves with what it reads: `table-change` gives it again for rows that agree with the old ones below the counts, with other
 -- literals, marks and counters whose own facts are given. `used-facts` is its case for the parts in use of the rows. Assumes nothing.
-use Prim.Native.Nat.{ℕ, zero, suc, _+_, _*_, _/_, _<_, _≤_}
+use Prim.Native.Nat.{ℕ, zero, suc, _+_, _/_, _<_, _≤_}
 use mathlib.Core.List.{List}
-use mathlib.Core.Bool.{Bool, true, false}
-use mathlib.Core.Path.{_≡_, refl, sym, ap, ap₂, subst, _∙_}
-use mathlib.Core.Logic.{_⊎_, inl, inr, ⊎-elim}
+use mathlib.Core.Bool.{true}
+use mathlib.Core.Path.{_≡_, refl, sym, ap, ap₂, _∙_}
 use native.Mathlib.Omega.{arith}
-use lib.ListN.{length, getD, take}
+use lib.ListN.{length, getD}
 use lib.IntN.{ℤ, pos}
 use Rattle.paper.specs.Limits.{nodeWords}
 use Rattle.paper.specs.Below.{sumBelow}
-use Rattle.paper.specs.Rows.{nodeAt, wordFrom}
+use Rattle.paper.specs.Rows.{nodeAt}
 use Rattle.paper.specs.Keys.{nodeKeys}
 use Rattle.paper.specs.Table.{leafStep, leavesBefore, cellsBefore, tableOk}
 use Rattle.paper.specs.Demand.{nodesUsed, inputsUsed, cellsUsed}
 use Rattle.paper.specs.declared.Node.{Node}
 use Rattle.paper.specs.declared.Counters.{Counters}
-use Rattle.facts.specs.Facts.{
-  CountersFit,
-  LitFacts,
-  CellFacts,
-  InnerFacts,
-  UnitFacts,
-  GeneralFacts,
-  NodeFacts,
-  a-leaf,
-  a-dummy,
-  a-unit,
-  a-general,
-  NodeFactsAt,
-  TableFacts,
-  table-facts,
-  left-there,
-  right-there,
-  Under,
-  node-under,
-  words-fit,
-  node-used,
-  used-at,
-  used-length,
-}
+use Rattle.facts.specs.Facts.{CellFacts, NodeFacts, a-leaf, a-dummy, a-unit, a-general, NodeFactsAt, TableFacts, table-facts, left-there, right-there, Under, node-under, node-used, used-at, used-length}
 use Rattle.facts.specs.Members.{node-same}
 
 -- two rows that agree below a place

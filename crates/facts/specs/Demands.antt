@@ -1,17 +1,17 @@
 -- A demand that is done: what its answer says, and that it leaves a table that passes. Assumes nothing.
-use Prim.Native.Nat.{ℕ, zero, suc, _+_, _*_, _/_, _<_, _≤_}
-use mathlib.Core.List.{List, [], _++_}
+use Prim.Native.Nat.{ℕ, _+_, _<_, _≤_}
+use mathlib.Core.List.{List}
 use mathlib.Core.Bool.{Bool, true, false, cond}
-use mathlib.Core.Path.{_≡_, refl, sym, ap, subst, _∙_}
+use mathlib.Core.Path.{_≡_, refl, subst, _∙_}
 use native.Mathlib.Omega.{arith}
-use lib.ListN.{length, getD, take, drop, length-append, List·getD-append}
+use lib.ListN.{length, getD, drop, length-append, List·getD-append}
 use lib.Dec.{leb, ltb}
 use lib.IntN.{ℤ, pos}
 use borrow.Author.Tests.{leb-true, ltb-true}
-use Rattle.paper.specs.Rows.{nodeAt, isGeneral, valueCount, conLen, conLits}
+use Rattle.paper.specs.Rows.{nodeAt, isGeneral, valueCount, conLits}
 use Rattle.paper.specs.Table.{tableOk, workOk}
 use Rattle.paper.specs.Plain.{St, litAt, grow, start, plainRun}
-use Rattle.paper.specs.Weighted.{outputOf, placeOf, weighRun}
+use Rattle.paper.specs.Weighted.{placeOf, weighRun}
 use Rattle.paper.specs.Demand.{nodesUsed, inputsUsed, cellsUsed, cellsBack, ranCounters, roomOf, demandedOf, countRun, countOf, sumPlace, isAt, indexOf, sumRun, sumOf}
 use Rattle.paper.specs.declared.Node.{Node}
 use Rattle.paper.specs.declared.Want.{Want}

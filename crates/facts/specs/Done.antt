@@ -1,25 +1,23 @@
 -- A demand that says 0, as one statement over the whole database; and the same demand once more, which changes nothing. Assumes nothing.
-use Prim.Native.Nat.{ℕ, zero, suc, _+_, _-_, _<_, _≤_}
-use mathlib.Core.List.{List, _++_, append-assoc}
-use mathlib.Core.Bool.{Bool, true, false}
+use Prim.Native.Nat.{ℕ, suc, _+_, _-_, _<_, _≤_}
+use mathlib.Core.List.{List, _++_}
+use mathlib.Core.Bool.{true, false}
 use mathlib.Core.Path.{_≡_, refl, sym, ap, subst, _∙_}
-use mathlib.Core.Logic.{_⊎_, inl, inr}
 use native.Mathlib.Omega.{arith}
 use native.Mathlib.Numerals.{add-one}
 use lib.ListN.{length, getD, take, drop, length-append, List·getD-append}
 use lib.Seq.{sets, sets-eq, length-take-le, drop-at}
 use lib.Dec.{ltb}
-use lib.IntN.{ℤ, pos}
-use borrow.Author.Tests.{ltb-true, eqb-true, ne-eqb}
-use Rattle.paper.specs.Rows.{nodeAt, isUnit, isLeaf, isZero, valueCount, conLen, conLits}
+use lib.IntN.{ℤ}
+use borrow.Author.Tests.{ltb-true, ne-eqb}
+use Rattle.paper.specs.Rows.{nodeAt, isZero, valueCount, conLits}
 use Rattle.paper.specs.Plain.{justIf, wantOf, litAt, St, define, grow, start, plainRun}
 use Rattle.paper.specs.Weighted.{outputOf, placeOf, weigh, weighRun}
 use Rattle.paper.specs.Table.{tableOk, workOk}
 use Rattle.paper.specs.Demand.{nodesUsed, inputsUsed, cellsUsed, cellsBack, ranCounters, roomOf, countRun, countOf, sumPlace, isAt, indexOf, sumRun, sumOf, demandedLits, demandedMarks, demandedClauses}
-use Rattle.paper.specs.Numbers.{Said, numberOf, demandedSaid}
+use Rattle.paper.specs.Numbers.{numberOf, demandedSaid}
 use Rattle.paper.specs.Calls.{Db, Work, After, unweightedCall, weightedCall}
 use Rattle.paper.specs.declared.Node.{Node}
-use Rattle.paper.specs.declared.Want.{Want}
 use Rattle.paper.specs.declared.Semantics.{Semantics}
 use Rattle.paper.specs.declared.Found.{Found}
 use Rattle.paper.specs.declared.Found.the-variants.{At, Absent}
@@ -46,10 +44,9 @@ use Rattle.paper.specs.declared.Demanded.{Demanded}
 use Rattle.paper.specs.declared.Demanded.the-variants.{Given, NotGiven}
 use Rattle.facts.specs.Facts.{table-facts, unit-outputs, general-outputs, node-used, used-length}
 use Rattle.facts.specs.Carry.{moved}
-use Rattle.facts.specs.Taken.{Taken}
 use Rattle.facts.specs.Rel.{CellOf, unit-place, output-place}
-use Rattle.facts.specs.Ran.{Ran, Good, Laid}
-use Rattle.facts.specs.Demands.{used-laid, used-good, count-ran, sum-ran, Through, count-done, sum-done, Roomy, roomy}
+use Rattle.facts.specs.Ran.{Ran}
+use Rattle.facts.specs.Demands.{used-laid, used-good, count-ran, sum-ran, Through, count-done, sum-done, roomy}
 use Rattle.facts.specs.Runs.{kept-words, Met, want-asks, unit-met, sum-marked, count-answer, sum-answer, count-rows, sum-rows, cell-in, unweighted-met, weighted-met}
 
 -- no refusal has the number 0

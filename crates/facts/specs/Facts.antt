@@ -3,20 +3,20 @@
 use Prim.Native.Nat.{ℕ, zero, suc, _+_, _-_, _*_, _/_, _<_, _≤_, max}
 use mathlib.Core.List.{List}
 use mathlib.Core.Bool.{Bool, true, false, cond, not, _&&_, _||_}
-use mathlib.Core.Path.{_≡_, refl, sym, ap, ap₂, subst, _∙_}
+use mathlib.Core.Path.{_≡_, refl, ap}
 use mathlib.Core.Logic.{_⊎_, inl, inr, ⊎-elim}
 use native.Mathlib.Nat.{add-zero}
 use native.Mathlib.Omega.{arith}
-use lib.ListN.{length, getD, take, drop}
+use lib.ListN.{length, getD, take}
 use lib.Seq.{length-take-le, getD-take}
 use lib.Dec.{eqb, leb, ltb}
 use borrow.Author.Tests.{leb-true, ltb-true, eqb-true, eqb-false, not-true, eq-eqb, ne-eqb, le-leb, lt-ltb}
 use lib.IntN.{ℤ, pos, negsuc, natAbs}
 use Rattle.paper.specs.Limits.{nodeLimit, cellLimit, depthLimit, mulLimit, keyLimit, varLimit, nodeWords}
-use Rattle.paper.specs.Below.{allBelow, sumBelow, and-left, and-right, and-both, ands3, ands5, ands6, ands7, all-at, all-made, sum-more, side}
-use Rattle.paper.specs.Rows.{nodeAt, wordFrom, isLeaf, isUnit, isGeneral, isDummy, valueCount, conLen, isNeg, isZero, litOk, cellOk, marksLow, keysCount, inputsOk, cellsOk}
+use Rattle.paper.specs.Below.{allBelow, sumBelow, and-left, and-right, and-both, ands3, ands5, ands6, ands7, all-at, all-made, sum-more}
+use Rattle.paper.specs.Rows.{nodeAt, wordFrom, isLeaf, isGeneral, isDummy, valueCount, conLen, litOk, cellOk, marksLow, keysCount, inputsOk, cellsOk}
 use Rattle.paper.specs.Keys.{nodeKeys, rowIs}
-use Rattle.paper.specs.Table.{nodesFit, rangeOk, countersOk, leafOk, dummyOk, depthOk, innerOk, unitOk, generalOk, nodeOk, leafStep, leavesBefore, cellsBefore, nodeOkAt, nodesOk, tableOkAt, tableOk}
+use Rattle.paper.specs.Table.{nodesFit, rangeOk, countersOk, leafOk, dummyOk, depthOk, innerOk, unitOk, generalOk, nodeOk, leafStep, leavesBefore, cellsBefore, nodeOkAt, nodesOk, tableOkAt}
 use Rattle.paper.specs.declared.Node.{Node}
 use Rattle.paper.specs.declared.Counters.{Counters}
 

@@ -1,39 +1,38 @@
 -- fresh, leaf, dummy and inner leave a table that passes. Assumes nothing.
-use Prim.Native.Nat.{ℕ, zero, suc, _+_, _-_, _*_, _/_, _<_, _≤_, max}
+use Prim.Native.Nat.{ℕ, _+_, _-_, _*_, _/_, _<_, _≤_, max}
 use mathlib.Core.List.{List}
 use mathlib.Core.Bool.{Bool, true, false, cond, _&&_}
-use mathlib.Core.Path.{_≡_, refl, sym, ap, ap₂, subst, _∙_}
-use mathlib.Core.Logic.{_⊎_, inl, inr, ⊎-elim}
+use mathlib.Core.Path.{_≡_, refl, sym, ap, subst, _∙_}
+use mathlib.Core.Logic.{inl, ⊎-elim}
 use native.Mathlib.Nat.{add-zero}
 use native.Mathlib.Omega.{arith}
 use lib.ListN.{length, getD, set, replicate, length-set, length-replicate, getD-replicate}
 use lib.Seq.{paste, length-paste, getD-set-other, getD-set-same}
-use lib.Dec.{eqb, leb, ltb}
+use lib.Dec.{leb}
 use lib.IntN.{ℤ, pos}
 use borrow.Author.Tests.{leb-true}
-use Rattle.paper.specs.Limits.{nodeLimit, cellLimit, depthLimit, varLimit, nodeWords}
+use Rattle.paper.specs.Limits.{varLimit, nodeWords}
 use Rattle.paper.specs.Below.{and-left, and-right, ands3, sum-none}
-use Rattle.paper.specs.Rows.{nodeAt, wordFrom, isGeneral, conLen, litOk}
+use Rattle.paper.specs.Rows.{nodeAt, conLen}
 use Rattle.paper.specs.Keys.{nodeKeys}
 use Rattle.paper.specs.Table.{rangeOk, leafStep, tableOkAt, tableOk}
 use Rattle.paper.specs.Grow.{begun, freshOf, putNode, leafNode, dummyNode, leafPlan, dummyPlan, withLeaf, withDummy}
-use Rattle.paper.specs.Join.{countFrom, countUp, innerNode, innerPlan, newKeys}
+use Rattle.paper.specs.Join.{countUp, innerNode, innerPlan, newKeys}
 use Rattle.paper.specs.declared.Node.{Node}
 use Rattle.paper.specs.declared.Counters.{Counters}
-use Rattle.paper.specs.declared.Begun.{Begun}
 use Rattle.paper.specs.declared.Begun.the-variants.{Made, NotMade}
 use Rattle.paper.specs.declared.Refusal.the-variants.{BadVariables}
 use Rattle.paper.specs.declared.Choice.the-variants.{New}
 use Rattle.paper.specs.declared.Pair.{Pair}
 use Rattle.paper.specs.declared.Sizes.{Sizes}
 use Rattle.paper.specs.declared.Planned.the-variants.{Make}
-use Rattle.facts.specs.Facts.{LitFacts, lit-facts, CellFacts, LeafFacts, InnerFacts, UnitFacts, GeneralFacts, NodeFacts, a-leaf, a-dummy, a-unit, a-general, TableFacts, table-facts, table-made, node-under, Under}
+use Rattle.facts.specs.Facts.{LitFacts, lit-facts, CellFacts, NodeFacts, a-leaf, a-dummy, a-unit, a-general, TableFacts, table-facts, table-made, node-under}
 use Rattle.facts.specs.Members.{node-same}
 use Rattle.facts.specs.Carry.{node-moved}
 use Rattle.facts.specs.Words.{put-length, put-old, put-new}
 use Rattle.facts.specs.Pastes.{paste-below, paste-at, count-length, count-at}
 use Rattle.facts.specs.Add.{withNode, add-node}
-use Rattle.facts.specs.Plans.{NodeRoom, leaf-new, dummy-new, CellRoom, Fitted, MulsFit, UnitMade, GeneralMade, InnerMade, inner-made}
+use Rattle.facts.specs.Plans.{NodeRoom, leaf-new, dummy-new, CellRoom, UnitMade, GeneralMade, inner-made}
 
 -- ---- fresh: whatever the rows hold
 

@@ -2,14 +2,14 @@
 use Prim.Native.Nat.{ℕ, zero, suc, _+_, _*_, _<_, _≤_}
 use mathlib.Core.List.{List, [], _∷_}
 use mathlib.Core.Bool.{Bool, true, false, cond}
-use mathlib.Core.Path.{_≡_, refl, sym, ap, ap₂, _∙_}
+use mathlib.Core.Path.{_≡_, refl, ap, ap₂, _∙_}
 use mathlib.Core.Logic.{_⊎_, inl, inr, ⊎-elim}
 use native.Mathlib.Omega.{arith}
 use lib.ListN.{length, getD}
-use lib.Dec.{eqb, ltb}
+use lib.Dec.{eqb}
 use borrow.Author.Tests.{lt-ltb, le-ltb, eq-eqb, ne-eqb}
 use Rattle.paper.specs.Below.{side}
-use Rattle.paper.specs.Rows.{wordFrom, isLeaf, valueCount, valueAt, conLen, conVal}
+use Rattle.paper.specs.Rows.{wordFrom, valueCount, valueAt, conLen, conVal}
 use Rattle.paper.specs.Keys.{put, putAll, keysOf, nodeKeys}
 use Rattle.paper.specs.declared.Node.{Node}
 use Rattle.facts.specs.Facts.{Under, GeneralFacts}

@@ -1,33 +1,32 @@
 -- "Nothing but 0 changes anything outside the working area"; "A done call leaves every entry past the new counts as it stood"; and no row changes its length.
 -- Assumes nothing.
-use Prim.Native.Nat.{ℕ, zero, suc, _+_, _-_, _*_, _/_, _<_, _≤_, max}
+use Prim.Native.Nat.{ℕ, zero, suc, _+_, _-_, _*_, _<_, _≤_, max}
 use mathlib.Core.List.{List, [], _∷_, _++_}
 use mathlib.Core.Bool.{Bool, true, false, cond}
 use mathlib.Core.Path.{_≡_, refl, sym, ap, subst, _∙_}
-use mathlib.Core.Logic.{_⊎_, inl, inr, ⊎-elim}
+use mathlib.Core.Logic.{⊎-elim}
 use native.Mathlib.Omega.{arith}
-use lib.ListN.{length, getD, take, drop, set, replicate, length-set, length-append, length-replicate}
-use lib.Seq.{paste, sets, length-sets, length-paste, length-front, drop-paste, drop-at, getD-drop, getD-set-other}
-use lib.Dec.{leb, ltb, eqb}
+use lib.ListN.{length, getD, drop, set, replicate, length-set, length-replicate}
+use lib.Seq.{sets, length-sets, length-paste, length-front, drop-at, getD-drop, getD-set-other}
+use lib.Dec.{leb, ltb}
 use lib.IntN.{ℤ, pos}
-use borrow.Author.Tests.{leb-true, ltb-true, eqb-false}
+use borrow.Author.Tests.{ltb-true, eqb-false}
 use Rattle.paper.specs.Limits.{nodeWords}
-use Rattle.paper.specs.Rows.{nodeAt, isLeaf, isUnit, isDummy, valueCount, conLen}
+use Rattle.paper.specs.Rows.{nodeAt, isLeaf, isDummy, conLen}
 use Rattle.paper.specs.Keys.{nodeKeys}
 use Rattle.paper.specs.Table.{tableOk, workOk}
-use Rattle.paper.specs.Grow.{freshOf, putNode, leafNode, dummyNode, leafPlan, leafAdded, leafNodes, leafInputs, dummyPlan, dummyAdded, dummyNodes}
-use Rattle.paper.specs.Join.{countUp, innerNode, innerPlan, innerAdded, innerNodes, innerKeys, innerLits, innerMarks, newKeys}
-use Rattle.paper.specs.Plain.{St, wantOf, takenLits, takenNext}
-use Rattle.paper.specs.Demand.{cellsUsed, cellsBack, ranCounters, countRun, countOf, sumRun, sumOf, demandedLits, demandedMarks, demandedClauses}
-use Rattle.paper.specs.Upkeep.{Stock, stock, give, giveAll, cellsFrom, placesOf, reservedBy, withNext, reserveAnswer, reserveOf, keptRow, resetOf, clearedMarks, emptied, emptyOf, valuedOf}
-use Rattle.paper.specs.Numbers.{Said, begunSaid, addedSaid, demandedSaid, keptSaid, valuedSaid, refused}
-use Rattle.paper.specs.Calls.{Db, Work, Call, fresh, leaf, dummy, inner, unweighted, weighted, reserve, value, reset, empty, check, After, checked, freshStep, leafCall, dummyCall, innerCall, unweightedCall, weightedCall, reserveCall, valueCall, resetCall, emptyCall, checkCall, step}
+use Rattle.paper.specs.Grow.{freshOf, leafNode, dummyNode, leafPlan, leafAdded, leafNodes, leafInputs, dummyPlan, dummyAdded, dummyNodes}
+use Rattle.paper.specs.Join.{innerNode, innerPlan, innerAdded, innerNodes, innerKeys, innerLits, innerMarks, newKeys}
+use Rattle.paper.specs.Plain.{St, wantOf, takenLits}
+use Rattle.paper.specs.Demand.{cellsUsed, ranCounters, countRun, countOf, sumRun, sumOf, demandedLits, demandedMarks, demandedClauses}
+use Rattle.paper.specs.Upkeep.{Stock, stock, give, giveAll, cellsFrom, placesOf, reservedBy, withNext, reserveAnswer, reserveOf, keptRow, resetOf, clearedMarks, emptyOf}
+use Rattle.paper.specs.Numbers.{begunSaid, addedSaid, demandedSaid, keptSaid}
+use Rattle.paper.specs.Calls.{Db, Work, Call, fresh, leaf, dummy, inner, unweighted, weighted, reserve, value, reset, empty, check, freshStep, leafCall, dummyCall, innerCall, unweightedCall, weightedCall, reserveCall, valueCall, resetCall, emptyCall, checkCall, step}
 use Rattle.paper.specs.declared.Node.{Node}
 use Rattle.paper.specs.declared.Counters.{Counters}
 use Rattle.paper.specs.declared.Semantics.{Semantics}
 use Rattle.paper.specs.declared.Pair.{Pair}
 use Rattle.paper.specs.declared.Sizes.{Sizes}
-use Rattle.paper.specs.declared.Refusal.{Refusal}
 use Rattle.paper.specs.declared.Refusal.the-variants.{TableFails, WorkShort, NoSuchNode, VariablesOut}
 use Rattle.paper.specs.declared.Begun.{Begun}
 use Rattle.paper.specs.declared.Begun.the-variants.{Made, NotMade}
@@ -42,10 +41,9 @@ use Rattle.paper.specs.declared.Kept.the-variants.{Did, DidNot}
 use Rattle.facts.specs.Facts.{NodeFactsAt, a-leaf, a-dummy, a-unit, a-general, TableFacts, table-facts, used-length}
 use Rattle.facts.specs.Words.{put-above, put-length}
 use Rattle.facts.specs.Pastes.{paste-past, count-length}
-use Rattle.facts.specs.Plans.{CellRoom, Fitted, UnitMade, GeneralMade, InnerMade, inner-made}
-use Rattle.facts.specs.Taken.{Take, took, left, take-case, Taken, all-taken}
-use Rattle.facts.specs.Ran.{Ran}
-use Rattle.facts.specs.Demands.{count-ran, sum-ran, Through, count-done, sum-done, Roomy, roomy}
+use Rattle.facts.specs.Plans.{Fitted, UnitMade, GeneralMade, InnerMade, inner-made}
+use Rattle.facts.specs.Taken.{Take, took, left, take-case, all-taken}
+use Rattle.facts.specs.Demands.{count-ran, sum-ran, count-done, sum-done, roomy}
 
 -- ---- a call that is refused leaves the database as it was
 

@@ -1,30 +1,28 @@
 -- What the plans of the calls that add a node say of the node they add. Assumes nothing.
-use Prim.Native.Nat.{ℕ, zero, suc, _+_, _*_, _/_, _<_, _≤_, max}
-use mathlib.Core.List.{List, [], _∷_}
+use Prim.Native.Nat.{ℕ, _+_, _/_, _<_, _≤_, max}
+use mathlib.Core.List.{List}
 use mathlib.Core.Bool.{Bool, true, false, cond, not, _&&_, _||_}
-use mathlib.Core.Path.{_≡_, refl, sym, ap, _∙_}
-use mathlib.Core.Logic.{_⊎_, inl, inr, ⊎-elim}
+use mathlib.Core.Path.{_≡_, refl}
+use mathlib.Core.Logic.{_⊎_, inl, inr}
 use native.Mathlib.Omega.{arith}
 use lib.ListN.{length, getD}
 use lib.Dec.{eqb, leb, ltb}
 use lib.IntN.{ℤ}
-use borrow.Author.Tests.{leb-true, leb-false, ltb-true, eqb-true, eqb-false, not-true}
+use borrow.Author.Tests.{leb-true, leb-false, ltb-true, eqb-true, eqb-false}
 use Rattle.paper.specs.Limits.{nodeLimit, cellLimit, depthLimit, mulLimit, keyLimit, nodeWords}
-use Rattle.paper.specs.Below.{allBelow, all-at, and-left, and-right, ands5}
-use Rattle.paper.specs.Rows.{nodeAt, isUnit, isGeneral, conLen, litOk}
+use Rattle.paper.specs.Below.{all-at, and-left, and-right, ands5}
+use Rattle.paper.specs.Rows.{nodeAt, isGeneral, conLen, litOk}
 use Rattle.paper.specs.Keys.{nodeKeys}
 use Rattle.paper.specs.Table.{tableOk}
 use Rattle.paper.specs.Grow.{roomForNode, choose, leafPlan, dummyPlan, firstLeaf, firstDummy}
 use Rattle.paper.specs.Join.{roomFor, mulsOk, innerNode, fitPlan, withinLimit, keysPlan, unitPlan, generalPlan, plainPair, joinPlan, innerPlan}
 use Rattle.paper.specs.declared.Node.{Node}
 use Rattle.paper.specs.declared.Counters.{Counters}
-use Rattle.paper.specs.declared.Choice.{Choice}
 use Rattle.paper.specs.declared.Choice.the-variants.{Old, New, No}
 use Rattle.paper.specs.declared.Refusal.{Refusal}
 use Rattle.paper.specs.declared.Refusal.the-variants.{TableFails, BadLiteral, NoRoom, NoSuchNode, BadMultiplier, NoValue, KeyTooLarge, TooDeep}
 use Rattle.paper.specs.declared.Pair.{Pair}
 use Rattle.paper.specs.declared.Sizes.{Sizes}
-use Rattle.paper.specs.declared.Planned.{Planned}
 use Rattle.paper.specs.declared.Planned.the-variants.{Make, Reject}
 
 -- ---- leaf and dummy

@@ -1,14 +1,13 @@
 -- What a run of a demand does to the literals, the marks and the next variable, whatever becomes of its clauses. Assumes nothing.
-use Prim.Native.Nat.{ℕ, zero, suc, _+_, _-_, _*_, _<_, _≤_}
+use Prim.Native.Nat.{ℕ, suc, _+_, _-_, _<_, _≤_}
 use mathlib.Core.List.{List}
-use mathlib.Core.Bool.{Bool, true, false, cond, not, _&&_, _||_}
-use mathlib.Core.Path.{_≡_, refl, sym, ap, subst, _∙_}
+use mathlib.Core.Bool.{Bool, true, false, _||_}
+use mathlib.Core.Path.{_≡_, refl, sym, ap, _∙_}
 use mathlib.Core.Logic.{_⊎_, inl, inr, ⊎-elim}
 use native.Mathlib.Omega.{arith}
 use native.Mathlib.Decide.{ℕ-discrete}
 use lib.ListN.{length, getD, set, length-set}
 use lib.Seq.{getD-set-same, getD-set-other}
-use lib.Dec.{eqb}
 use lib.IntN.{ℤ, pos}
 use borrow.Author.Tests.{ne-eqb}
 use Rattle.paper.specs.Below.{side}
@@ -17,12 +16,10 @@ use Rattle.paper.specs.Plain.{markOf, markByte, hasIf, hasOnly, missingOf, take
 use Rattle.paper.specs.Weighted.{takeAt, markAt, clauseAt, weigh}
 use Rattle.paper.specs.declared.Node.{Node}
 use Rattle.paper.specs.declared.Want.{Want}
-use Rattle.paper.specs.declared.Todo.{Todo}
 use Rattle.paper.specs.declared.Clause.{Clause}
 use Rattle.paper.specs.declared.Way.{Way}
 use Rattle.paper.specs.declared.Counters.{Counters}
-use Rattle.facts.specs.Facts.{Held, CellFacts, NodeFactsAt, a-leaf, a-dummy, a-unit, a-general, TableFacts, cells-apart}
-use Rattle.facts.specs.Carry.{general-mark}
+use Rattle.facts.specs.Facts.{CellFacts, NodeFactsAt, a-leaf, a-dummy, a-unit, a-general, TableFacts, cells-apart}
 use Rattle.facts.specs.Taken.{cellLit, not-zero, Taken, taken-refl, taken-held, taken-one, take-held, taken-trans}
 use Rattle.facts.specs.Kept.{held-taken, some-or}
 use Rattle.facts.specs.Rel.{Falls, falls, CellOf, Stepped, Summed, define-rel, define-case, weigh-rel, sum-case}

@@ -1,11 +1,11 @@
 -- One induction over a run: a relation between states, bounded by node ids, that a finished cell of a unit keeps is kept by the whole unweighted run;
 -- one that a clause and a cell of a general node keep too is kept by the weighted run. Every demand on the way is of an output that is there.
 -- Assumes nothing.
-use Prim.Native.Nat.{ℕ, zero, suc, _+_, _-_, _*_, _%_, _/_, _<_, _≤_, min}
+use Prim.Native.Nat.{ℕ, zero, suc, _+_, _-_, _%_, _/_, _<_, _≤_}
 use mathlib.Core.List.{List}
 use mathlib.Core.Bool.{Bool, true, false, cond}
-use mathlib.Core.Path.{_≡_, refl, sym, ap, subst, _∙_}
-use mathlib.Core.Logic.{_⊎_, inl, inr, ⊎-elim}
+use mathlib.Core.Path.{_≡_, refl, sym, subst, _∙_}
+use mathlib.Core.Logic.{_⊎_, inl, inr}
 use native.Mathlib.Omega.{arith}
 use lib.ListN.{getD}
 use lib.Dec.{eqb, ltb}
@@ -19,14 +19,11 @@ use Rattle.paper.specs.declared.Node.{Node}
 use Rattle.paper.specs.declared.Want.{Want}
 use Rattle.paper.specs.declared.Todo.{Todo}
 use Rattle.paper.specs.declared.Span.{Span}
-use Rattle.paper.specs.declared.Ranges.{Ranges}
 use Rattle.paper.specs.declared.Clause.{Clause}
 use Rattle.paper.specs.declared.Precond.{Precond}
 use Rattle.paper.specs.declared.Precond.the-variants.{Return, Pass, Continue}
-use Rattle.paper.specs.declared.Found.{Found}
 use Rattle.paper.specs.declared.Found.the-variants.{At, Absent}
 use Rattle.paper.specs.declared.Way.{Way}
-use Rattle.paper.specs.declared.Job.{Job}
 use Rattle.paper.specs.declared.Job.the-variants.{Nothing, Count, Sum}
 use Rattle.facts.specs.Facts.{NodeFactsAt, a-leaf, a-dummy, a-unit, a-general, dummy-outputs, unit-outputs, general-outputs}
 

@@ -1,46 +1,44 @@
 -- Laws of the demands: what a done demand does to the rows, that it answers a literal, and that a demand that is already met does nothing.
 -- Assumes nothing.
-use Prim.Native.Nat.{ℕ, zero, suc, _+_, _-_, _*_, _<_, _≤_}
-use mathlib.Core.List.{List, [], _∷_, _++_, append-assoc}
+use Prim.Native.Nat.{ℕ, zero, suc, _+_, _-_, _<_, _≤_}
+use mathlib.Core.List.{List, _++_, append-assoc}
 use mathlib.Core.Bool.{Bool, true, false, cond, not, _&&_, _||_}
-use mathlib.Core.Path.{_≡_, refl, sym, ap, ap₂, subst, _∙_}
+use mathlib.Core.Path.{_≡_, refl, sym, ap, subst, _∙_}
 use mathlib.Core.Logic.{_⊎_, inl, inr, ⊎-elim}
 use native.Mathlib.Omega.{arith}
 use native.Mathlib.Nat.{add-zero}
 use native.Mathlib.Numerals.{add-one}
-use lib.ListN.{length, getD, take, drop, set, length-append, take-append-drop, List·getD-append}
-use lib.Seq.{sets, sets-eq, length-take-le, getD-take, getD-drop, getD-append-add, getD-set-same, length-front, take-at, drop-at, take-append-seam, take-append-le}
-use lib.Dec.{eqb, leb, ltb}
+use lib.ListN.{length, getD, take, drop, set, take-append-drop, List·getD-append}
+use lib.Seq.{sets, sets-eq, length-take-le, getD-take, getD-drop, getD-append-add, getD-set-same, length-front, take-at, drop-at, take-append-seam}
+use lib.Dec.{eqb}
 use lib.IntN.{ℤ, pos, negsuc, natAbs}
 use borrow.Author.Tests.{eqb-true, eqb-false, ltb-true, eq-eqb, ne-eqb}
 use Rattle.paper.specs.Below.{side}
 use Rattle.paper.specs.Rows.{nodeAt, isLeaf, isUnit, isGeneral, isZero, valueCount, conLen, conLits}
-use Rattle.paper.specs.Plain.{justIf, wantOf, markOf, hasIf, hasOnly, missingOf, planUnit, planOf, litAt, takenLits, takenNext, St, finishOf, stepOf, define, grow, start, plainRun}
-use Rattle.paper.specs.Weighted.{outputOf, placeOf, jobOf, takeAt, markAt, doOf, weigh, weighRun}
-use Rattle.paper.specs.Table.{tableOk, workOk}
-use Rattle.paper.specs.Demand.{nodesUsed, inputsUsed, cellsUsed, cellsBack, ranCounters, roomOf, countRun, countOf, sumPlace, isAt, indexOf, sumRun, sumOf, demandedLits, demandedMarks, demandedClauses}
+use Rattle.paper.specs.Plain.{justIf, wantOf, markOf, hasIf, hasOnly, missingOf, planUnit, planOf, litAt, St, finishOf, stepOf, define, grow, start, plainRun}
+use Rattle.paper.specs.Weighted.{placeOf, jobOf, takeAt, markAt, doOf, weigh, weighRun}
+use Rattle.paper.specs.Table.{tableOk}
+use Rattle.paper.specs.Demand.{nodesUsed, inputsUsed, cellsUsed, cellsBack, ranCounters, countRun, countOf, sumPlace, isAt, indexOf, sumRun, sumOf, demandedLits, demandedMarks, demandedClauses}
 use Rattle.paper.specs.Numbers.{demandedSaid}
-use Rattle.paper.specs.Calls.{Db, Work, After, checked, unweightedCall, weightedCall}
+use Rattle.paper.specs.Calls.{Db, Work, unweightedCall, weightedCall}
 use Rattle.paper.specs.declared.Node.{Node}
 use Rattle.paper.specs.declared.Want.{Want}
 use Rattle.paper.specs.declared.Semantics.{Semantics}
 use Rattle.paper.specs.declared.Semantics.the-variants.{If, OnlyIf, IfAndOnlyIf}
 use Rattle.paper.specs.declared.Clause.{Clause}
-use Rattle.paper.specs.declared.Precond.{Precond}
 use Rattle.paper.specs.declared.Precond.the-variants.{Return}
 use Rattle.paper.specs.declared.Found.{Found}
 use Rattle.paper.specs.declared.Found.the-variants.{At, Absent}
-use Rattle.paper.specs.declared.Job.{Job}
 use Rattle.paper.specs.declared.Job.the-variants.{Nothing, Count, Sum}
 use Rattle.paper.specs.declared.Counters.{Counters}
 use Rattle.paper.specs.declared.Demanded.{Demanded}
 use Rattle.paper.specs.declared.Demanded.the-variants.{Given, NotGiven}
-use Rattle.facts.specs.Facts.{Held, LitFacts, CellFacts, NodeFactsAt, a-leaf, a-dummy, a-unit, a-general, TableFacts, table-facts, leaf-low, node-under, dummy-outputs, unit-outputs, general-outputs, leaf-outputs, node-used, used-at, used-length}
+use Rattle.facts.specs.Facts.{Held, NodeFactsAt, a-leaf, a-dummy, a-unit, a-general, TableFacts, table-facts, leaf-low, node-under, dummy-outputs, unit-outputs, general-outputs, leaf-outputs, node-used, used-at}
 use Rattle.facts.specs.Carry.{moved}
 use Rattle.facts.specs.Taken.{cellLit, not-zero, zero-or, Taken, taken-held, take-held}
 use Rattle.facts.specs.Rel.{CellOf, Stepped, idle, finished, Summed, marked, summed, unit-place, output-place}
-use Rattle.facts.specs.Ran.{Laid, Inner, Move, same, Ran, Good, RanFrom, good-kept, good-taken, define-step, sum-step, asked-if, asked-only}
-use Rattle.facts.specs.Demands.{used, used-laid, used-good, count-ran, sum-ran, Through, count-done, sum-done, Roomy, roomy}
+use Rattle.facts.specs.Ran.{Laid, Inner, same, Ran, Good, RanFrom, good-kept, good-taken, define-step, sum-step, asked-if, asked-only}
+use Rattle.facts.specs.Demands.{used, used-laid, used-good, count-ran, sum-ran, count-done, sum-done, roomy}
 
 -- ---- the whole rows: the part in use after the run, with what lay past it
 

@@ -1,8 +1,8 @@
 -- Literals that are taken in order: the law of "Take a literal (the next variable) if there is none", once and again. Assumes nothing.
-use Prim.Native.Nat.{ℕ, zero, suc, _+_, _-_, _<_, _≤_}
+use Prim.Native.Nat.{ℕ, zero, suc, _+_, _<_, _≤_}
 use mathlib.Core.List.{List, [], _∷_}
-use mathlib.Core.Bool.{Bool, true, false, cond}
-use mathlib.Core.Path.{_≡_, refl, sym, ap, subst, _∙_}
+use mathlib.Core.Bool.{true, false}
+use mathlib.Core.Path.{_≡_, refl, sym, ap, _∙_}
 use mathlib.Core.Logic.{_⊎_, inl, inr, ⊎-elim}
 use native.Mathlib.Omega.{arith}
 use native.Mathlib.Decide.{ℕ-discrete}
@@ -11,8 +11,8 @@ use lib.Seq.{getD-set-same, getD-set-other}
 use lib.IntN.{ℤ, pos, negsuc, natAbs}
 use Rattle.paper.specs.Below.{side}
 use Rattle.paper.specs.Rows.{isZero}
-use Rattle.paper.specs.Plain.{hasNone, takenLits, takenNext}
-use Rattle.paper.specs.Upkeep.{Stock, stock, give, giveAll}
+use Rattle.paper.specs.Plain.{takenLits, takenNext}
+use Rattle.paper.specs.Upkeep.{Stock, give, giveAll}
 use Rattle.facts.specs.Facts.{Held}
 
 -- the literal of a cell, 0 for none

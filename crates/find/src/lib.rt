@@ -77,7 +77,8 @@ fn way_two(keys: &[u32], n: Node, l: Node, r: Node, v: usize, p: usize) -> Way
     let a = con_len(l);
     if p < a {
         let got = n.lmul * value_at(keys, l, p);
-        if got < v {
+        let below = got < v;
+        if below {
             let y = share_of(keys, r, n.rmul, v - got);
             return join(p + 1, y);
         }

@@ -201,7 +201,17 @@ fn leaves(
     let c = start(3);
     let c = leaf(nodes, inputs, keys, lits, marks, c, 0);
     let c = leaf(nodes, inputs, keys, lits, marks, c, -2147483648);
-    let c = leaf(nodes, inputs, keys, lits, marks, c, 3);
+    leaf(nodes, inputs, keys, lits, marks, c, 3)
+}
+
+fn equal_leaves(
+    nodes: &mut [u32; 32784],
+    inputs: &mut [i32; 16],
+    keys: &[u32; 16400],
+    lits: &[i32; 16400],
+    marks: &[u8; 16400],
+    c: Counters,
+) -> Counters {
     let c = leaf(nodes, inputs, keys, lits, marks, c, 2);
     let c = leaf(nodes, inputs, keys, lits, marks, c, -2);
     let c = leaf(nodes, inputs, keys, lits, marks, c, 2);
@@ -266,7 +276,17 @@ fn multipliers(
     io::write_all(1, b"inner:");
     let c = inner(nodes, inputs, keys, lits, marks, c, 0, 1, 3, 1);
     let c = inner(nodes, inputs, keys, lits, marks, c, 0, 2, 1, 2);
-    let c = inner(nodes, inputs, keys, lits, marks, c, 2, 2, 2, 3);
+    inner(nodes, inputs, keys, lits, marks, c, 2, 2, 2, 3)
+}
+
+fn more_multipliers(
+    nodes: &mut [u32; 32784],
+    inputs: &[i32; 16],
+    keys: &mut [u32; 16400],
+    lits: &mut [i32; 16400],
+    marks: &mut [u8; 16400],
+    c: Counters,
+) -> Counters {
     let c = inner(nodes, inputs, keys, lits, marks, c, 0, 65536, 1, 1);
     let c = inner(nodes, inputs, keys, lits, marks, c, 0, 1, 1, 0);
     let c = inner(nodes, inputs, keys, lits, marks, c, 0, 65535, 1, 1);
@@ -311,12 +331,22 @@ fn node_limit(
     keys: &mut [u32; 16400],
     lits: &mut [i32; 16400],
     marks: &mut [u8; 16400],
-) {
+) -> Counters {
     io::write_all(1, b"nodes:");
     let c = start(2);
     let c = dummy(nodes, inputs, keys, lits, marks, c);
     let c = add_many(nodes, inputs, keys, lits, marks, c, 0, 4094, false, false);
-    let c = inner(nodes, inputs, keys, lits, marks, c, 0, 1, 0, 1);
+    inner(nodes, inputs, keys, lits, marks, c, 0, 1, 0, 1)
+}
+
+fn past_node_limit(
+    nodes: &mut [u32; 32784],
+    inputs: &mut [i32; 16],
+    keys: &mut [u32; 16400],
+    lits: &mut [i32; 16400],
+    marks: &mut [u8; 16400],
+    c: Counters,
+) {
     let c = inner(nodes, inputs, keys, lits, marks, c, 0, 1, 0, 1);
     let c = leaf(nodes, inputs, keys, lits, marks, c, 1);
     dummy(nodes, inputs, keys, lits, marks, c);
@@ -363,10 +393,34 @@ fn small(
 ) {
     begins();
     let c = leaves(nodes, inputs, keys, lits, marks);
+    let c = equal_leaves(nodes, inputs, keys, lits, marks, c);
     dummies(nodes, inputs, keys, lits, marks, c);
+}
+
+fn pairs(
+    nodes: &mut [u32; 32784],
+    inputs: &mut [i32; 16],
+    keys: &mut [u32; 16400],
+    lits: &mut [i32; 16400],
+    marks: &mut [u8; 16400],
+) {
     let c = three(nodes, inputs, keys, lits, marks);
     let c = multipliers(nodes, inputs, keys, lits, marks, c);
+    let c = more_multipliers(nodes, inputs, keys, lits, marks, c);
     key_limit(nodes, inputs, keys, lits, marks, c);
+}
+
+fn limits(
+    nodes: &mut [u32; 32784],
+    inputs: &mut [i32; 16],
+    keys: &mut [u32; 16400],
+    lits: &mut [i32; 16400],
+    marks: &mut [u8; 16400],
+) {
+    let c = node_limit(nodes, inputs, keys, lits, marks);
+    past_node_limit(nodes, inputs, keys, lits, marks, c);
+    let c = doubled(nodes, inputs, keys, lits, marks);
+    cell_limit(nodes, inputs, keys, lits, marks, c);
 }
 
 fn main() {
@@ -376,8 +430,7 @@ fn main() {
     let mut lits = [9i32; 16400];
     let mut marks = [9u8; 16400];
     small(&mut nodes, &mut inputs, &mut keys, &mut lits, &mut marks);
+    pairs(&mut nodes, &mut inputs, &mut keys, &mut lits, &mut marks);
     depth(&mut nodes, &mut inputs, &mut keys, &mut lits, &mut marks);
-    node_limit(&mut nodes, &mut inputs, &mut keys, &mut lits, &mut marks);
-    let c = doubled(&mut nodes, &mut inputs, &mut keys, &mut lits, &mut marks);
-    cell_limit(&mut nodes, &inputs, &mut keys, &mut lits, &mut marks, c);
+    limits(&mut nodes, &mut inputs, &mut keys, &mut lits, &mut marks);
 }

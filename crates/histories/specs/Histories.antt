@@ -3,16 +3,18 @@
 use mathlib.Core.Path.{_≡_, refl, sym, _∙_, ap, subst}
 use mathlib.Core.Bool.{Bool, true, false, cond, _&&_}
 use mathlib.Core.List.{List, [], _∷_, _++_}
-use Prim.Native.Nat.{ℕ, _+_, _<_, _≤_}
+use Prim.Native.Nat.{ℕ}
 use native.Mathlib.Omega.{arith}
 use lib.IntN.{ℤ}
 use lib.Dec.{eqb}
 use borrow.Author.Tests.{eqb-true}
 use Rattle.paper.specs.Calls.{Db, Call, fresh, leaf, dummy, inner, unweighted, weighted, reserve, value, reset, empty, check, checked, step, valueCall, checkCall, appended}
+use Rattle.paper.specs.Sums.{played}
 use Rattle.meaning.specs.Table.{History}
-use Rattle.meaning.specs.Words.{flat, clausesFrom, read-back, own-nz, words-back}
-use Rattle.histories.specs.Upheld.{tabOf, marksOf, Upheld, Moved, moved-same}
-use Rattle.histories.specs.Stepped.{unweighted-moves, weighted-moves, reserve-moves, reset-moves, empty-moves, leaf-moves, dummy-moves, inner-moves, fresh-upheld, fresh-refused}
+use Rattle.meaning.specs.Words.{flat, clausesFrom, words-back}
+use Rattle.histories.specs.Upheld.{tabOf, marksOf, Upheld, Moved, moved-none}
+use Rattle.histories.specs.Stepped.{unweighted-moves, weighted-moves, reserve-moves, reset-moves, empty-moves}
+use Rattle.histories.specs.Added.{leaf-moves, dummy-moves, inner-moves, fresh-upheld, fresh-refused}
 
 abbrev pub isFresh : Call → Bool
 isFresh (fresh first last) = true
@@ -26,6 +28,20 @@ isFresh (value w id a) = false
 isFresh reset = false
 isFresh empty = false
 isFresh check = false
+
+-- the one call that takes marks away
+abbrev pub isReset : Call → Bool
+isReset (fresh first last) = false
+isReset (leaf x) = false
+isReset dummy = false
+isReset (inner j) = false
+isReset (unweighted w id i m) = false
+isReset (weighted w id v) = false
+isReset (reserve w id) = false
+isReset (value w id a) = false
+isReset reset = true
+isReset empty = false
+isReset check = false
 
 -- a done fresh call begins anew
 abbrev pub restarts : Db → Call → Bool
@@ -44,19 +60,19 @@ abbrev pub clausesOf : List ℤ → History
 clausesOf w = clausesFrom [] w
 
 -- a call that begins nothing keeps what is upheld
-moves : (d : Db) (h : History) → Upheld d h → (k : Call) → restarts d k ≡ false → checked (step d k .db) ≡ true → Moved d (step d k .db) h
+pub moves : (d : Db) (h : History) → Upheld d h → (k : Call) → restarts d k ≡ false → checked (step d k .db) ≡ true → Moved d (step d k .db) h (isReset k)
 unfolding step valueCall checkCall
-moves d h u (fresh first last) e ok = let q = fresh-refused d first last e in subst (λ (x : Db). Moved d x h) (sym q) (moved-same d d h u (omega arith))
+moves d h u (fresh first last) e ok = let q = fresh-refused d first last e in subst (λ (x : Db). Moved d x h false) (sym q) (moved-none d h u false)
 moves d h u (leaf x) e ok = leaf-moves d h u x ok
 moves d h u dummy e ok = dummy-moves d h u ok
 moves d h u (inner j) e ok = inner-moves d h u j ok
 moves d h u (unweighted w id i m) e ok = unweighted-moves d h u w id i m ok
 moves d h u (weighted w id v) e ok = weighted-moves d h u w id v ok
 moves d h u (reserve w id) e ok = reserve-moves d h u w id ok
-moves d h u (value w id a) e ok = moved-same d d h u (omega arith)
+moves d h u (value w id a) e ok = moved-none d h u false
 moves d h u reset e ok = reset-moves d h u ok
 moves d h u empty e ok = empty-moves d h u ok
-moves d h u check e ok = moved-same d d h u (omega arith)
+moves d h u check e ok = moved-none d h u false
 
 -- what is upheld of a history: the clauses that its words are
 pub record Stands (d : Db) (w : List ℤ) : Type 0 where
@@ -92,3 +108,17 @@ module _ (keeps : (d : Db) (k : Call) → checked d ≡ true → checked (step d
 -- the words of a history, read as clauses, are its clauses
 pub read : {d : Db} {w : List ℤ} (s : Stands d w) → clausesOf w ≡ s .clauses
 read {d} {w} s = ap clausesOf (s .words) ∙ words-back (tabOf d) (marksOf d) (s .clauses) (s .upheld .inv)
+
+-- the history of a list of calls
+unfoldable pub wordsOf : List Call → Db → List ℤ → List ℤ
+wordsOf [] d w = w
+wordsOf (k ∷ ks) d w = wordsOf ks (step d k .db) (wordsAfter d k w)
+
+pub history : (ks : List Call) (d : Db) (w : List ℤ) → Reached d w → Reached (played ks d) (wordsOf ks d w)
+unfolding played wordsOf
+history [] d w r = r
+history (k ∷ ks) d w r = history ks (step d k .db) (wordsAfter d k w) (call d w k r)
+
+-- .. that begins with a done fresh call, on any rows
+pub history-of : (first last : ℕ) (ks : List Call) (d : Db) → step d (fresh first last) .said .number ≡ 0 → Reached (played ks (step d (fresh first last) .db)) (wordsOf ks (step d (fresh first last) .db) [])
+history-of first last ks d e = history ks (step d (fresh first last) .db) [] (begin d first last e)

@@ -1,26 +1,24 @@
 -- What the table check says, as what the meaning of clauses needs: the shape of the view, its cells, its keys.
-use mathlib.Core.Path.{_≡_, refl, sym, _∙_, ap, subst}
-use mathlib.Core.Bool.{Bool, true, false, true≢false, false≢true}
+use mathlib.Core.Path.{_≡_, refl, sym, _∙_, ap}
+use mathlib.Core.Bool.{true, false, true≢false}
 use mathlib.Core.List.{List}
-use mathlib.Core.Logic.{_⊎_, inl, inr, ⊎-elim}
+use mathlib.Core.Logic.{_⊎_, inl, inr}
 use Prim.Native.Nat.{ℕ, zero, suc, _+_, _*_, _<_, _≤_}
 use native.Mathlib.Decide.{decLt}
 use native.Mathlib.Nat.{mul-pos}
 use native.Mathlib.Omega.{arith}
 use lib.IntN.{ℤ, pos, negsuc, natAbs}
-use lib.ListN.{length, getD}
+use lib.ListN.{getD}
 use lib.Dec.{eqb}
-use borrow.Author.Tests.{eq-eqb}
-use Rattle.paper.specs.Rows.{nodeAt, wordFrom, valueCount, valueAt, conVal, conLen, isLeaf, isDummy, isGeneral, isNeg}
-use Rattle.paper.specs.declared.Node.{Node}
+use Rattle.paper.specs.Rows.{nodeAt, wordFrom, valueCount, valueAt, conVal, conLen, isLeaf, isDummy, isNeg}
 use Rattle.paper.specs.declared.Counters.{Counters}
-use Rattle.facts.specs.Facts.{LitFacts, CellFacts, LeafFacts, InnerFacts, UnitFacts, GeneralFacts, NodeFacts, NodeFactsAt, a-leaf, a-dummy, a-unit, a-general, TableFacts, node-under, leaf-low, cells-apart}
-use Rattle.facts.specs.Members.{At, KeyIs, from-right, from-left, from-sum, KeyAt, left-key, right-key, sum-key, key-only, key-ascend}
+use Rattle.facts.specs.Facts.{InnerFacts, UnitFacts, GeneralFacts, NodeFactsAt, a-leaf, a-dummy, a-unit, a-general, TableFacts, node-under, leaf-low, cells-apart}
+use Rattle.facts.specs.Members.{KeyIs, from-right, from-left, from-sum, left-key, right-key, sum-key, key-only, key-ascend}
 use Rattle.meaning.specs.Base.{Nz, var}
 use Rattle.meaning.specs.Table.{Kind, leaf, dummy, unit, general, keyAt, NotGeneral, Inner, NodeOk, Shape}
 use Rattle.meaning.specs.Sound.{strong}
 use Rattle.meaning.specs.Rows.{Net, State, tabOf, Room}
-use Rattle.meaning.specs.View.{kindOf, codeOf, netOf, keyOf, Sharp, Fit, word-is, test-is, count-is, value-is}
+use Rattle.meaning.specs.View.{kindOf, netOf, keyOf, Sharp, Fit, word-is, test-is, count-is, value-is}
 
 nz-of : (z : ℤ) → 1 ≤ natAbs z → Nz z
 nz-of (pos zero) h = let x : ⊥ = omega arith in x

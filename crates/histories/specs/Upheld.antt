@@ -1,20 +1,18 @@
 -- What is true of a table and of all clauses appended since its fresh call; and that the demands' runs, which go over the parts in use, keep it.
-use mathlib.Core.Path.{_≡_, refl, sym, _∙_, ap, ap₂, subst}
-use mathlib.Core.Bool.{Bool, true, false, not, true≢false, false≢true}
-use mathlib.Core.List.{List, [], _∷_, _++_, append-assoc, append-nil}
-use mathlib.Core.Logic.{_⊎_, inl, inr}
-use Prim.Native.Nat.{ℕ, zero, suc, _+_, _-_, _*_, _/_, _<_, _≤_}
+use mathlib.Core.Path.{_≡_, refl, sym, _∙_, ap, subst}
+use mathlib.Core.Bool.{Bool, true, false}
+use mathlib.Core.List.{List, [], _++_, append-assoc, append-nil}
+use Prim.Native.Nat.{ℕ, _+_, _-_, _/_, _<_, _≤_}
 use native.Mathlib.Omega.{arith}
 use lib.IntN.{ℤ, pos}
-use lib.ListN.{length, getD, take, drop, length-append, List·getD-append}
+use lib.ListN.{length, take, drop, length-append, List·getD-append}
 use lib.Seq.{sets, sets-eq, take-at, drop-at, length-take-le}
 use Rattle.paper.specs.Limits.{nodeWords}
 use Rattle.paper.specs.Rows.{nodeAt, valueCount, isGeneral}
-use Rattle.paper.specs.Plain.{St, define, grow, start, plainRun, wordsOf}
+use Rattle.paper.specs.Plain.{define, grow, plainRun}
 use Rattle.paper.specs.Weighted.{outputOf, placeOf, weigh, weighRun}
-use Rattle.paper.specs.Demand.{nodesUsed, inputsUsed, cellsUsed, cellsBack, countRun, sumRun, sumPlace, ranCounters, isAt}
+use Rattle.paper.specs.Demand.{nodesUsed, inputsUsed, cellsUsed, cellsBack, countRun, sumPlace}
 use Rattle.paper.specs.Calls.{Db, checked, appended}
-use Rattle.paper.specs.declared.Node.{Node}
 use Rattle.paper.specs.declared.Counters.{Counters}
 use Rattle.paper.specs.declared.Want.{Want}
 use Rattle.paper.specs.declared.Found.{Found}
@@ -28,9 +26,11 @@ use Rattle.meaning.specs.View.{kindOf, Sharp, Fit}
 use Rattle.meaning.specs.Same.{rows-good}
 use Rattle.meaning.specs.Emit.{gather, gather-words}
 use Rattle.meaning.specs.Sink.{through, define-map, weigh-map, behind, from, from-behind}
+use Rattle.meaning.specs.Asked.{Asked}
 use Rattle.meaning.specs.Run.{define-good}
 use Rattle.meaning.specs.Ways.{output-finds}
-use Rattle.meaning.specs.Weigh.{weigh-good}
+use Rattle.meaning.specs.Weigh.{Placed, weigh-good}
+use Rattle.histories.specs.Stays.{Stays, stays-refl}
 use Rattle.histories.specs.Shown.{fit, sharp, shape, plain, not-general}
 
 -- the table that the rows show, and their state with the clauses h
@@ -70,18 +70,24 @@ good-of d h u =
       inv = u .inv;
     }
 
--- the clauses afterwards, and that the words appended are those of the new ones
-pub record Moved (d after : Db) (h : History) : Type 0 where
+-- the clauses afterwards, that the words appended are those of the new ones, and what stays
+pub record Moved (d after : Db) (h : History) (cleared : Bool) : Type 0 where
   pub now : History
   pub upheld : Upheld after now
   pub words : flat now ≡ flat h ++ appended (d .counters) after
+  pub stays : Stays d after cleared
 
 -- nothing is appended where the clause length does not grow
 pub none-appended : (c : Counters) (after : Db) → after .counters .words ≤ c .words → appended c after ≡ []
 none-appended c after h = let e : after .counters .words - c .words ≡ 0 = omega arith in rw e
 
-pub moved-same : (d after : Db) (h : History) → Upheld after h → after .counters .words ≤ d .counters .words → Moved d after h
-moved-same d after h u le = record { now = h; upheld = u; words = sym (append-nil (flat h)) ∙ ap (λ (w : List ℤ). flat h ++ w) (sym (none-appended (d .counters) after le)) }
+pub moved-same : (d after : Db) (h : History) → Upheld after h → after .counters .words ≤ d .counters .words → (b : Bool) → Stays d after b → Moved d after h b
+moved-same d after h u le b st =
+    record { now = h; upheld = u; words = sym (append-nil (flat h)) ∙ ap (λ (w : List ℤ). flat h ++ w) (sym (none-appended (d .counters) after le)); stays = st }
+
+-- a call that changes nothing
+pub moved-none : (d : Db) (h : History) → Upheld d h → (b : Bool) → Moved d d h b
+moved-none d h u b = moved-same d d h u (omega arith) b (stays-refl d b)
 
 -- words written behind those that are there are the words appended
 pub appended-sets : (row out : List ℤ) (w : ℕ) → w + length out ≤ length row → take (w + length out - w) (drop w (sets row w out)) ≡ out
@@ -94,35 +100,35 @@ appended-sets row out w h =
 -- ---- a run over the parts in use
 
 module _ (d : Db) (h : History) (u : Upheld d h) where
-  abbrev c : Counters
+  abbrev pub c : Counters
   c = d .counters
 
-  abbrev ns : List ℕ
+  abbrev pub ns : List ℕ
   ns = nodesUsed (d .nodes) c
 
-  abbrev ins : List ℤ
+  abbrev pub ins : List ℤ
   ins = inputsUsed (d .inputs) c
 
-  abbrev keys : List ℕ
+  abbrev pub keys : List ℕ
   keys = cellsUsed (d .keys) c
 
-  abbrev used : Net
+  abbrev pub used : Net
   used = Rattle.meaning.specs.View.netOf ns ins keys (c .nodes) (c .first)
 
-  abbrev begin : History → State
+  abbrev pub begin : History → State
   begin k = from (cellsUsed (d .lits) c) (cellsUsed (d .marks) c) (c .next) k
 
   used-table : TableFacts (nodeAt ns) (c .nodes) ins keys (cellsUsed (d .lits) c) (cellsUsed (d .marks) c) (length (d .clauses)) c
   unfolding checked
   used-table = used-facts (d .nodes) (d .inputs) (d .keys) (d .lits) (d .marks) (length (d .clauses)) c (u .passes)
 
-  used-fit : Fit ns ins keys (c .nodes) (c .first) (c .cells)
+  pub used-fit : Fit ns ins keys (c .nodes) (c .first) (c .cells)
   used-fit = fit ns ins keys (cellsUsed (d .lits) c) (cellsUsed (d .marks) c) c used-table
 
-  used-sharp : Sharp used
+  pub used-sharp : Sharp used
   used-sharp = sharp ns ins keys (cellsUsed (d .lits) c) (cellsUsed (d .marks) c) c used-table
 
-  used-good : Good used (c .cells) (begin h)
+  pub used-good : Good used (c .cells) (begin h)
   used-good =
       let t = facts-of d (u .passes) in
       let el = used-length (c .cells) (d .lits) (t .lit-row) in
@@ -161,18 +167,19 @@ module _ (d : Db) (h : History) (u : Upheld d h) where
 
   -- what a run that is the plain run q, with its clauses gathered, leaves
   ran-moved : (q : State) → Good used (c .cells) (through (λ (s : History). h ++ s) q) → c .words + length (flat (q .out)) ≤ length (d .clauses)
-      → (after : Db) → after ≡ putBack q (c .words + length (flat (q .out))) (sets (d .clauses) (c .words) (flat (q .out))) → checked after ≡ true → Moved d after h
-  ran-moved q good room after e ok =
+      → (after : Db) → after ≡ putBack q (c .words + length (flat (q .out))) (sets (d .clauses) (c .words) (flat (q .out))) → checked after ≡ true → Stays d after false → Moved d after h false
+  ran-moved q good room after e ok st =
       let w = c .words + length (flat (q .out)) in
       let row = sets (d .clauses) (c .words) (flat (q .out)) in
-      subst (λ (x : Db). Moved d x h) (sym e)
+      subst (λ (x : Db). Moved d x h false) (sym e)
       (record {
         now = h ++ q .out;
         upheld = record { passes = subst (λ (x : Db). checked x ≡ true) e ok; inv = back-good q w row good .inv };
         words = flat-append h (q .out) ∙ ap (λ (x : List ℤ). flat h ++ x) (sym (appended-sets (d .clauses) (flat (q .out)) (c .words) room));
+        stays = subst (λ (x : Db). Stays d x false) e st;
       })
 
-  node-here : (id : ℕ) → id < c .nodes → nodeAt ns id ≡ nodeAt (d .nodes) id
+  pub node-here : (id : ℕ) → id < c .nodes → nodeAt ns id ≡ nodeAt (d .nodes) id
   node-here id s = node-used (d .nodes) (c .nodes) id s
 
   -- ---- unweighted
@@ -185,22 +192,23 @@ module _ (d : Db) (h : History) (u : Upheld d h) where
     unfolding plainRun counted
     count-words = sym (define-map gather grow flat gather-words (id + 1) ns ins id i w (begin []))
 
-    count-good : id < c .nodes → isGeneral (nodeAt (d .nodes) id) ≡ false → i < valueCount (nodeAt (d .nodes) id) → Good used (c .cells) (through (λ (s : History). h ++ s) counted)
+    pub count-asked : id < c .nodes → isGeneral (nodeAt (d .nodes) id) ≡ false → i < valueCount (nodeAt (d .nodes) id)
+        → Asked used (c .cells) (begin h) (through (λ (s : History). h ++ s) counted) id i w
     unfolding counted
-    count-good s k hi =
+    count-asked s k hi =
         let e = node-here id s in
         let kind : NotGeneral (kindOf (nodeAt ns id .kind)) = rw e (not-general (nodeAt (d .nodes) id .kind) k) in
         let count : i < valueCount (nodeAt ns id) = rw e hi in
         let same : through (λ (x : History). h ++ x) counted ≡ define gather (id + 1) ns ins id i w (begin h)
         = define-map gather gather (λ (x : History). h ++ x) (behind h) (id + 1) ns ins id i w (begin [])
         ∙ ap (λ (x : State). define gather (id + 1) ns ins id i w x) (from-behind (cellsUsed (d .lits) c) (cellsUsed (d .marks) c) (c .next) h) in
-        subst (λ (x : State). Good used (c .cells) x) (sym same)
-        (define-good ns ins keys (c .nodes) (c .first) (c .cells) used-fit (id + 1) (begin h) used-good id i (omega arith) s kind count w .good)
+        subst (λ (x : State). Asked used (c .cells) (begin h) x id i w) (sym same)
+        (define-good ns ins keys (c .nodes) (c .first) (c .cells) used-fit (id + 1) (begin h) used-good id i (omega arith) s kind count w)
 
     pub count-moved : id < c .nodes → isGeneral (nodeAt (d .nodes) id) ≡ false → i < valueCount (nodeAt (d .nodes) id)
         → c .words + length (flat (counted .out)) ≤ length (d .clauses)
-        → (after : Db) → after ≡ putBack counted (c .words + length (flat (counted .out))) (sets (d .clauses) (c .words) (flat (counted .out))) → checked after ≡ true → Moved d after h
-    count-moved s k hi room after e ok = ran-moved counted (count-good s k hi) room after e ok
+        → (after : Db) → after ≡ putBack counted (c .words + length (flat (counted .out))) (sets (d .clauses) (c .words) (flat (counted .out))) → checked after ≡ true → Stays d after false → Moved d after h false
+    count-moved s k hi room after e ok st = ran-moved counted (count-asked s k hi .good) room after e ok st
 
   -- ---- weighted: the output at a place
 
@@ -212,21 +220,21 @@ module _ (d : Db) (h : History) (u : Upheld d h) where
     unfolding weighRun weighed
     weigh-words = sym (weigh-map gather grow flat gather-words (id + 1) ns ins keys id y (begin []))
 
-    weighed-good : id < c .nodes → y ≤ valueCount (nodeAt (d .nodes) id) → Good used (c .cells) (through (λ (s : History). h ++ s) weighed)
+    pub weigh-placed : id < c .nodes → y ≤ valueCount (nodeAt (d .nodes) id) → Placed used (c .cells) (begin h) (through (λ (s : History). h ++ s) weighed) id y
     unfolding weighed
-    weighed-good s hy =
+    weigh-placed s hy =
         let e = node-here id s in
         let count : y ≤ valueCount (nodeAt ns id) = rw e hy in
         let same : through (λ (x : History). h ++ x) weighed ≡ weigh gather (id + 1) ns ins keys id y (begin h)
         = weigh-map gather gather (λ (x : History). h ++ x) (behind h) (id + 1) ns ins keys id y (begin [])
         ∙ ap (λ (x : State). weigh gather (id + 1) ns ins keys id y x) (from-behind (cellsUsed (d .lits) c) (cellsUsed (d .marks) c) (c .next) h) in
-        subst (λ (x : State). Good used (c .cells) x) (sym same)
-        (weigh-good ns ins keys (c .nodes) (c .first) (c .cells) used-fit used-sharp (id + 1) (begin h) used-good id y (omega arith) s count .good)
+        subst (λ (x : State). Placed used (c .cells) (begin h) x id y) (sym same)
+        (weigh-good ns ins keys (c .nodes) (c .first) (c .cells) used-fit used-sharp (id + 1) (begin h) used-good id y (omega arith) s count)
 
     pub weigh-moved : id < c .nodes → y ≤ valueCount (nodeAt (d .nodes) id)
         → c .words + length (flat (weighed .out)) ≤ length (d .clauses)
-        → (after : Db) → after ≡ putBack weighed (c .words + length (flat (weighed .out))) (sets (d .clauses) (c .words) (flat (weighed .out))) → checked after ≡ true → Moved d after h
-    weigh-moved s hy room after e ok = ran-moved weighed (weighed-good s hy) room after e ok
+        → (after : Db) → after ≡ putBack weighed (c .words + length (flat (weighed .out))) (sets (d .clauses) (c .words) (flat (weighed .out))) → checked after ≡ true → Stays d after false → Moved d after h false
+    weigh-moved s hy room after e ok st = ran-moved weighed (weigh-placed s hy .good) room after e ok st
 
   -- the place of an output that is found is one of the node's
   pub place-low : (id v : ℕ) → id < c .nodes → placeOf (sumPlace (d .nodes) (d .keys) c id v) ≤ valueCount (nodeAt (d .nodes) id)

@@ -1,9 +1,9 @@
 -- The law of the keys: the least sum at least a is the first key at least a; and past key i - 1 that is key i.
 -- Assumes nothing.
-use Prim.Native.Nat.{ℕ, zero, suc, _+_, _*_, _<_, _≤_, _^_}
+use Prim.Native.Nat.{ℕ, zero, suc, _+_, _*_, _<_, _≤_, _^_, _-_}
 use mathlib.Core.List.{List, [], _∷_, _++_}
 use mathlib.Core.Bool.{Bool, true, false, cond, _&&_, and-false, and-true}
-use mathlib.Core.Path.{_≡_, refl, sym, ap, ap₂, _∙_, fun-ext}
+use mathlib.Core.Path.{_≡_, refl, sym, ap, ap₂, _∙_, fun-ext, subst}
 use mathlib.Core.Logic.{_⊎_, inl, inr, ⊎-elim}
 use native.Mathlib.Numerals.{add-one}
 use native.Mathlib.Nat.{mul-le-mul, mul-le-mul-left, zero-add}
@@ -11,13 +11,13 @@ use native.Mathlib.Omega.{arith}
 use lib.ListN.{length, getD, take, drop, length-append, List·getD-append}
 use lib.Seq.{paste, length-take-le, getD-take}
 use lib.Dec.{eqb, leb, ltb}
-use borrow.Author.Tests.{lt-ltb, le-ltb, le-leb, lt-leb, eq-eqb, ne-eqb}
+use borrow.Author.Tests.{lt-ltb, le-ltb, le-leb, lt-leb, eq-eqb, ne-eqb, ltb-true, ltb-false}
 use Rattle.paper.specs.Below.{allBelow, all-cong, all-fails, all-made, side}
 use Rattle.paper.specs.Rows.{wordFrom, conLen, conVal, valueAt}
 use Rattle.paper.specs.Limits.{mulLimit, keyLimit}
 use Rattle.paper.specs.declared.Node.{Node}
 use Rattle.paper.specs.Keys.{nodeKeys, put, putAll, keysOf}
-use Rattle.keys.specs.Least.{Under, Mono, pickedAt, none, pickOf, leastAll, leastSum, firstFrom, startAt}
+use Rattle.keys.specs.Least.{Under, Mono, pickedAt, none, pickOf, leastAll, leastSum, firstFrom, startAt, Cut}
 
 -- ascending, from lo up to below hi
 abbrev pub Between : ℕ → ℕ → List ℕ → Type 0
@@ -353,3 +353,53 @@ module _ (n : ℕ) (r : ℕ → ℕ) (mono : Mono n r) (x a j0 j : ℕ) (j0≤n 
       row-least n (λ k. x + r k) a b j (omega arith) (λ k l. stair-low j refl k l)
       (λ i k h g. let m : r i ≤ r k = mono i k h g in omega arith)
       (λ l. stair-high j (omega arith) l)
+
+-- a turn of the halving: the place mid was looked at
+module _ (n : ℕ) (f : ℕ → ℕ) (mono : Mono n f) (x a j lo mid hi : ℕ) (from : lo ≤ mid) (below : mid < hi) (j≤n : j ≤ n) (c : Cut f x a j lo hi) where
+  pub cut-turn : (low : Bool) → low ≡ ltb (x + f mid) a → Cut f x a j (cond low (mid + 1) lo) (cond low hi mid)
+  cut-turn true e =
+      let h : x + f mid < a = ltb-true (x + f mid) a (sym e) in
+      record { ends = omega arith; within = c .within; low = λ k s. (let z : k ≡ mid = omega arith in subst (λ (w : ℕ). x + f w < a) (sym z) h); high = c .high }
+  cut-turn false e =
+      let h : a ≤ x + f mid = ltb-false (x + f mid) a (sym e) in
+      record { ends = from; within = omega (arith, c .within); low = c .low; high = λ k s t. (let m : f mid ≤ f k = mono mid k s (omega arith) in omega arith) }
+
+pub cut-less : (lo mid hi : ℕ) → lo ≤ mid → mid < hi → (low : Bool) → cond low hi mid - cond low (mid + 1) lo < hi - lo
+cut-less lo mid hi h g true = omega arith
+cut-less lo mid hi h g false = omega arith
+
+-- what is below the cut is low
+pub cut-below : (n : ℕ) (f : ℕ → ℕ) → Mono n f → (x a j t : ℕ) → j ≤ n → Cut f x a j t t → (k : ℕ) → k < t → x + f k < a
+cut-below n f mono x a j t h c k l = go t refl
+  where
+    go : (p : ℕ) → p ≡ t → x + f k < a
+    go zero e = absurd (omega arith)
+    go (suc p) e = let q : x + f p < a = c .low p e in let m : f k ≤ f p = mono k p (omega arith) (omega (arith, c .within)) in omega arith
+
+-- rows that do not reach a are passed over
+pub skip-rows : (n : ℕ) (l : ℕ → ℕ) (nr : ℕ) (r : ℕ → ℕ) (a most : ℕ) → ((k : ℕ) → k < nr → r k ≤ most) → ((k : ℕ) → k < n → most + l k < a)
+    → leastSum 0 l nr r a ≡ leastSum n l nr r a
+unfolding leastSum
+skip-rows zero l nr r a most h g = refl
+skip-rows (suc n) l nr r a most h g =
+    skip-rows n l nr r a most h (λ k p. g k (omega arith))
+    ∙ sym (all-low nr (λ j. l n + r j) a (pickOf a (l n) (leastSum n l nr r a)) (λ k p. omega (arith, h k p, g n (omega arith))) ∙ pick-low a (l n) (leastSum n l nr r a) (omega (arith, g n (omega arith))))
+
+-- a itself cannot be bettered
+pick-stays : (a x : ℕ) → pickOf a x a ≡ a
+pick-stays a x = ⊎-elim (λ (h : x < a). pick-low a x a h) (λ (h : a ≤ x). pick-high a x a h) (side x a)
+
+all-stays : (n : ℕ) (f : ℕ → ℕ) (a : ℕ) → leastAll n f a a ≡ a
+unfolding leastAll
+all-stays zero f a = refl
+all-stays (suc n) f a = ap (pickOf a (f n)) (all-stays n f a) ∙ pick-stays a (f n)
+
+pub sum-stays : (l : ℕ → ℕ) (nr : ℕ) (r : ℕ → ℕ) (a i : ℕ) → leastSum i l nr r a ≡ a → (d : ℕ) → leastSum (d + i) l nr r a ≡ a
+unfolding leastSum
+sum-stays l nr r a i e zero = ap (λ (k : ℕ). leastSum k l nr r a) (zero-add i) ∙ e
+sum-stays l nr r a i e (suc d) =
+    let q : suc d + i ≡ suc (d + i) = omega arith in
+    ap (λ (k : ℕ). leastSum k l nr r a) q
+    ∙ ap (λ (b : ℕ). leastAll nr (λ j. l (d + i) + r j) a (pickOf a (l (d + i)) b)) (sum-stays l nr r a i e d)
+    ∙ ap (leastAll nr (λ j. l (d + i) + r j) a) (pick-stays a (l (d + i)))
+    ∙ all-stays nr (λ j. l (d + i) + r j) a

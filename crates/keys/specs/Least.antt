@@ -36,6 +36,13 @@ firstFrom a (x ∷ xs) = cond (leb a x) x (firstFrom a xs)
 abbrev pub Mono : ℕ → (ℕ → ℕ) → Type 0
 Mono n f = (i k : ℕ) → i ≤ k → k < n → f i ≤ f k
 
+-- below j: what is next below lo is low, and from hi on all is at least a
+pub record Cut (f : ℕ → ℕ) (x a j lo hi : ℕ) : Type 0 where
+  pub ends : lo ≤ hi
+  pub within : hi ≤ j
+  pub low : (k : ℕ) → suc k ≡ lo → x + f k < a
+  pub high : (k : ℕ) → hi ≤ k → k < j → a ≤ x + f k
+
 abbrev pub pickedAt : ℕ → (ℕ → ℕ) → ℕ → ℕ → ℕ → ℕ
 pickedAt n f a best j = cond (ltb j n) (pickOf a (f j) best) best
 

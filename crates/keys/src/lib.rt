@@ -3,14 +3,14 @@
 use paper::KEY_LIMIT;
 use paper::Node;
 ghost use mathlib.Core.Path.{_≡_};
-ghost use mathlib.Core.Bool.{true};
+ghost use mathlib.Core.Bool.{true, cond};
 ghost use Prim.Native.Nat.{ℕ, suc, _+_, _*_, _<_, _≤_, _^_, min};
 ghost use lib.ListN.{length, getD};
 ghost use lib.Seq.{paste};
 ghost use Rattle.paper.specs.Limits.{mulLimit};
 ghost use Rattle.paper.specs.Rows.{conLen, conVal, valueAt};
 ghost use Rattle.paper.specs.Keys.{nodeKeys, rowIs};
-ghost use Rattle.keys.specs.Least.{pickOf, leastAll, firstFrom, Under, Mono, pickedAt};
+ghost use Rattle.keys.specs.Least.{pickOf, leastAll, firstFrom, Under, Mono, Cut, pickedAt};
 
 // Above every sum of two products of a multiplier and a word.
 pub const NONE: usize = 4611686018427387904;
@@ -75,20 +75,69 @@ fn ascending(keys: &[u32], n: Node) -> bool
     ok
 }
 
-// Goes back from j while x + r is at least a.
-fn back(keys: &[u32], r: Node, m: usize, x: usize, a: usize, j: usize) -> usize
-    requires { ⌜ (m ≤ mulLimit) × (x < 2 ^ 48) ⌝ }
-    ensures { λ t. ⌜ (t ≤ j) × ((k : ℕ) → t ≤ k → k < j → a ≤ x + conVal (now (keys .entry)) r m k) × ((k : ℕ) → suc k ≡ t → x + conVal (now (keys .entry)) r m k < a) ⌝ }
+// A place from lo on and below hi to look at: near hi at first, and then the middle.
+fn probe(lo: usize, hi: usize, step: usize) -> usize
+    requires { ⌜ lo < hi ⌝ }
+    ensures { λ r. ⌜ (lo ≤ r) × (r < hi) ⌝ }
 {
-    let mut t = j;
-    while 0 < t {
-        let v = rows::value_at(keys, r, t - 1);
-        if x + m * v < a {
-            return t;
-        }
-        t -= 1;
+    let half = (hi - lo) / 2;
+    if step <= half {
+        if 0 < step { hi - step } else { lo }
+    } else {
+        lo + half
     }
-    0
+}
+
+fn wider(low: bool, step: usize) -> usize {
+    if low {
+        return NONE;
+    }
+    if step < NONE { step + step } else { step }
+}
+
+// The ends of what is left once the place mid was looked at.
+fn lower_end(low: bool, lo: usize, mid: usize, hi: usize) -> usize
+    requires { ⌜ mid < hi ⌝ }
+    ensures { λ r. ⌜ r ≡ cond low (mid + 1) lo ⌝ }
+{
+    if low { mid + 1 } else { lo }
+}
+
+fn upper_end(low: bool, mid: usize, hi: usize) -> usize
+    ensures { λ r. ⌜ r ≡ cond low hi mid ⌝ }
+{
+    if low { hi } else { mid }
+}
+
+// Goes back from j to where x + r begins to be at least a, by steps that double and then by halves.
+fn back(keys: &[u32], r: Node, m: usize, x: usize, a: usize, j: usize) -> usize
+    requires { ⌜ (m ≤ mulLimit) × (x < 2 ^ 48) × (j ≤ conLen r) × (Mono (conLen r) (λ k. valueAt (now keys) r k)) ⌝ }
+    ensures { λ t. ⌜ Cut (conVal (now (keys .entry)) r m) x a j t t ⌝ }
+{
+    let mut lo = 0;
+    let mut hi = j;
+    let mut step = 1;
+    while lo < hi {
+        let mid = probe(lo, hi, step);
+        let v = rows::value_at(keys, r, mid);
+        let low = x + m * v < a;
+        step = wider(low, step);
+        lo = lower_end(low, lo, mid, hi);
+        hi = upper_end(low, mid, hi);
+    }
+    hi
+}
+
+// The largest of a node's values times the multiplier, or 0.
+fn largest(keys: &[u32], r: Node, m: usize) -> usize
+    requires { ⌜ (m ≤ mulLimit) × (Mono (conLen r) (λ k. valueAt (now keys) r k)) ⌝ }
+    ensures { λ x. ⌜ (x < 2 ^ 48) × ((k : ℕ) → k < conLen r → conVal (now (keys .entry)) r m k ≤ x) ⌝ }
+{
+    let n = rows::con_len(r);
+    if n == 0 {
+        return 0;
+    }
+    m * rows::value_at(keys, r, n - 1)
 }
 
 // best, or the sum at j if there is one there and it is better.
@@ -105,17 +154,22 @@ fn pick_at(keys: &[u32], r: Node, m: usize, x: usize, a: usize, best: usize, j: 
     }
 }
 
-// The same where the values do not fall: j only goes back, so |L| + |R| steps.
+// The same where the values do not fall: from the first row that reaches a on, j only goes back, so at most |L| + |R| steps;
+// and a itself, which cannot be bettered, ends the search.
 fn first_key_sorted(keys: &[u32], l: Node, lm: usize, r: Node, rm: usize, a: usize) -> usize
     requires { ⌜ (lm ≤ mulLimit) × (rm ≤ mulLimit) ⌝ }
     requires { ⌜ (Mono (conLen l) (λ k. valueAt (now keys) l k)) × (Mono (conLen r) (λ k. valueAt (now keys) r k)) ⌝ }
     ensures { λ x. ⌜ x ≡ firstFrom a (nodeKeys (now (keys .entry)) l lm r rm) ⌝ }
 {
     let n = rows::con_len(l);
+    let most = largest(keys, r, rm);
     let mut j = back(keys, r, rm, 0, a, rows::con_len(r));
     let mut b = pick_at(keys, r, rm, 0, a, NONE, j);
-    let mut i = 0;
+    let mut i = back(keys, l, lm, most, a, n);
     while i < n {
+        if b == a {
+            return b;
+        }
         let x = lm * rows::value_at(keys, l, i);
         j = back(keys, r, rm, x, a, j);
         b = pick_at(keys, r, rm, x, a, pick(a, x, b), j);

@@ -1,20 +1,20 @@
 -- The clauses that a run appends, as lists: those of the paper's clause values are the own clauses of the table, in the same order.
-use mathlib.Core.Path.{_≡_, refl, sym, _∙_, ap, ap₂, subst}
-use mathlib.Core.Bool.{Bool, true, false, not, cond, true≢false, false≢true}
+use mathlib.Core.Path.{_≡_, refl, sym, _∙_, ap, ap₂}
+use mathlib.Core.Bool.{Bool, true, false, not, cond}
 use mathlib.Core.List.{List, [], _∷_, _++_, append-assoc, append-nil}
-use Prim.Native.Nat.{ℕ, zero, suc, _+_, _*_, _-_, _<_, _≤_, min}
+use Prim.Native.Nat.{ℕ, zero, suc, _+_, _-_, _<_, _≤_, min}
 use native.Mathlib.Numerals.{add-one}
 use native.Mathlib.Omega.{arith}
 use lib.IntN.{ℤ, pos, negℤ}
-use lib.ListN.{length, getD, take}
+use lib.ListN.{length, take}
 use lib.Dec.{eqb, ltb}
 use borrow.Author.Tests.{ltb-true, ltb-false, eq-eqb, ne-eqb}
-use Rattle.paper.specs.Span.{over, span}
+use Rattle.paper.specs.Span.{over}
 use Rattle.paper.specs.Plain.{litAt, ifClause, onlyClause, wordsOf, emitIf, emitOnly, emitBoth}
 use Rattle.paper.specs.declared.Clause.{Clause}
 use Rattle.paper.specs.declared.Want.{Want}
 use Rattle.meaning.specs.Base.{AtPrev, prev, keep}
-use Rattle.meaning.specs.Table.{Dir, If, OnlyIf, Tab, History, lit, ifOf, onlyOf}
+use Rattle.meaning.specs.Table.{If, OnlyIf, Tab, History, lit}
 use Rattle.meaning.specs.Lists.{upto, ifLow, ifCount, onlyLow, onlyCount, if-range-back, only-range-back, leftCount, rightCount, ownList}
 use Rattle.meaning.specs.Words.{flat, flat-append}
 

@@ -1,81 +1,17 @@
 -- Theorem 2: every assignment of the inputs extends to satisfy the history, each output that has a literal being true exactly when the value reaches its key.
 use mathlib.Core.Path.{_≡_, refl, sym, _∙_, ap, subst}
-use mathlib.Core.Bool.{Bool, true, false, not, _&&_, _||_, true≢false, false≢true, cond}
-use mathlib.Core.List.{List, [], _∷_, _++_, List·Memᴰ}
+use mathlib.Core.Bool.{Bool, true, false, not, _&&_, _||_, false≢true, cond}
+use mathlib.Core.List.{List}
 use mathlib.Core.Logic.{_⊎_, inl, inr, _↔_}
-use Prim.Native.Nat.{ℕ, zero, suc, _+_, _*_, _-_, _<_, _≤_, min}
+use Prim.Native.Nat.{ℕ, zero, suc, _+_, _*_, _<_, _≤_}
 use native.Mathlib.Decide.{decLe, decLt}
 use native.Mathlib.Nat.{mul-le-mul-left}
 use native.Mathlib.Omega.{arith}
-use lib.IntN.{ℤ, pos, negsuc, negℤ}
+use lib.IntN.{ℤ, pos, negsuc}
 use lib.Dec.{ltb, leb, eqb}
-use borrow.Author.Tests.{ltb-true, ltb-false, leb-true, eqb-true, lt-ltb, le-ltb, le-leb, eq-eqb}
-use Rattle.meaning.specs.Base.{
-  Nz,
-  litv,
-  var,
-  ifClause,
-  onlyClause,
-  AtPrev,
-  at-prev-map,
-  Sat,
-  prev,
-  keep,
-  nz-pos,
-  neg-true,
-  neg-false,
-  lit-neg,
-  bool-cases,
-  sat-prev,
-  sat-keep,
-  sat-keep-at,
-  same-sat,
-  same-sym,
-}
-use Rattle.meaning.specs.Table.{
-  Kind,
-  leaf,
-  dummy,
-  unit,
-  general,
-  Dir,
-  If,
-  OnlyIf,
-  Node,
-  Tab,
-  Marks,
-  litOf,
-  lit,
-  heldOf,
-  Held,
-  doneOf,
-  Done,
-  keyAt,
-  NotGeneral,
-  Inner,
-  IfPair,
-  OnlyPair,
-  ifOf,
-  onlyOf,
-  LeafOk,
-  UnitOk,
-  GeneralOk,
-  NodeOk,
-  Shape,
-  bit,
-  ValueOf,
-  Values,
-  History,
-  FromIf,
-  FromOnly,
-  Cell,
-  Own,
-  ownIf,
-  ownOnly,
-  Cells,
-  Inv,
-  AllSat,
-}
+use borrow.Author.Tests.{leb-true, eqb-true, lt-ltb, le-ltb, le-leb, eq-eqb}
+use Rattle.meaning.specs.Base.{Nz, litv, var, AtPrev, Sat, prev, nz-pos, neg-false, lit-neg, bool-cases, sat-prev, sat-keep, sat-keep-at, same-sat, same-sym}
+use Rattle.meaning.specs.Table.{Kind, leaf, dummy, unit, general, Tab, Marks, litOf, lit, heldOf, Held, keyAt, Inner, IfPair, OnlyPair, ifOf, onlyOf, UnitOk, NodeOk, Shape, bit, ValueOf, Values, History, Cell, Own, ownIf, ownOnly, Cells, Inv, AllSat}
 use Rattle.meaning.specs.Sound.{bound, key-small}
 
 -- some i below n passes the test

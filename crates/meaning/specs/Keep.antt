@@ -1,63 +1,15 @@
 -- Theorem 3: the steps of which every call is made keep the invariant.
-use mathlib.Core.Path.{_≡_, refl, sym, _∙_, ap, subst}
-use mathlib.Core.Bool.{Bool, true, false, not, _&&_, _||_, true≢false, false≢true, cond}
-use mathlib.Core.List.{List, [], _∷_, _++_, List·Memᴰ, List·Memᴰ·append-cases, Memᴰ·append-left, List·Memᴰ·eq-of-singleton, List·Memᴰ·not-nil}
-use mathlib.Core.Logic.{_⊎_, inl, inr, _↔_}
-use Prim.Native.Nat.{ℕ, zero, suc, _+_, _*_, _-_, _<_, _≤_, min}
-use native.Mathlib.Decide.{decLe, decLt, ℕ-discrete}
+use mathlib.Core.Path.{_≡_, refl, _∙_, ap}
+use mathlib.Core.Bool.{Bool, true}
+use mathlib.Core.List.{List, List·Memᴰ}
+use mathlib.Core.Logic.{_⊎_, inl, inr}
+use Prim.Native.Nat.{ℕ, zero, suc, _<_, _≤_}
 use native.Mathlib.Omega.{arith}
-use lib.IntN.{ℤ, pos, negsuc, negℤ}
-use lib.Dec.{ltb, leb, eqb}
+use lib.IntN.{ℤ, pos}
+use lib.Dec.{ltb}
 use borrow.Author.Tests.{ltb-true}
-use Rattle.meaning.specs.Base.{Nz, litv, var, ifClause, onlyClause, AtPrev, at-prev-map, Sat, prev, keep, prev-cong, keep-cong, in-sub}
-use Rattle.meaning.specs.Table.{
-  Kind,
-  leaf,
-  dummy,
-  unit,
-  general,
-  Dir,
-  If,
-  OnlyIf,
-  Node,
-  Tab,
-  Marks,
-  litOf,
-  lit,
-  heldOf,
-  Held,
-  doneOf,
-  Done,
-  keyAt,
-  NotGeneral,
-  Inner,
-  IfPair,
-  OnlyPair,
-  ifOf,
-  onlyOf,
-  LeafOk,
-  UnitOk,
-  GeneralOk,
-  NodeOk,
-  Shape,
-  bit,
-  ValueOf,
-  Values,
-  History,
-  ClosedIf,
-  ClosedOnly,
-  Closed,
-  Marked,
-  FromIf,
-  FromOnly,
-  Cell,
-  Own,
-  ownIf,
-  ownOnly,
-  Cells,
-  Inv,
-  AllSat,
-}
+use Rattle.meaning.specs.Base.{AtPrev, at-prev-map, prev, keep, prev-cong, keep-cong, in-sub}
+use Rattle.meaning.specs.Table.{Kind, leaf, dummy, unit, general, Dir, If, OnlyIf, Node, Tab, Marks, litOf, lit, heldOf, Held, doneOf, Done, keyAt, Inner, IfPair, OnlyPair, ifOf, onlyOf, NodeOk, Shape, History, Closed, Marked, Cell, Own, ownIf, ownOnly, Cells, Inv}
 
 -- t' has all of t: its nodes, keys and given literals, and perhaps more
 pub record Ext (t t' : Tab) : Type 0 where

@@ -1,47 +1,13 @@
 -- The own clauses as lists, in the order of the paper, and the facts about the ranges of x, proved once over a, b and i.
-use mathlib.Core.Path.{_≡_, refl, sym, _∙_, ap, subst}
-use mathlib.Core.Bool.{Bool, true, false}
-use mathlib.Core.List.{List, [], _∷_, _++_, List·Memᴰ, List·Memᴰ·head, List·Memᴰ·tail, List·Memᴰ·cases-cons, List·Memᴰ·not-nil}
+use mathlib.Core.Path.{_≡_, ap}
+use mathlib.Core.List.{List, [], _∷_, List·Memᴰ, List·Memᴰ·head, List·Memᴰ·tail, List·Memᴰ·cases-cons, List·Memᴰ·not-nil}
 use mathlib.Core.Logic.{_⊎_, inl, inr}
 use Prim.Native.Nat.{ℕ, zero, suc, _+_, _*_, _-_, _<_, _≤_, min}
-use native.Mathlib.Decide.{decLe, ℕ-discrete}
+use native.Mathlib.Decide.{ℕ-discrete}
 use native.Mathlib.Omega.{arith}
-use lib.IntN.{ℤ, pos}
+use lib.IntN.{ℤ}
 use Rattle.meaning.specs.Base.{AtPrev, same-of, in-of}
-use Rattle.meaning.specs.Table.{
-  Kind,
-  leaf,
-  dummy,
-  unit,
-  general,
-  Dir,
-  If,
-  OnlyIf,
-  Node,
-  Tab,
-  Marks,
-  Done,
-  keyAt,
-  NotGeneral,
-  IfPair,
-  OnlyPair,
-  ifOf,
-  onlyOf,
-  UnitOk,
-  NodeOk,
-  Shape,
-  History,
-  ClosedIf,
-  ClosedOnly,
-  Closed,
-  FromIf,
-  FromOnly,
-  Cell,
-  Own,
-  ownIf,
-  ownOnly,
-  Inv,
-}
+use Rattle.meaning.specs.Table.{unit, Dir, If, OnlyIf, Tab, Marks, Done, keyAt, IfPair, ifOf, onlyOf, UnitOk, Shape, History, Closed, Cell, Own, ownIf, ownOnly, Inv}
 use Rattle.meaning.specs.Sound.{key-small}
 use Rattle.meaning.specs.Keep.{done-held, at-done-held}
 

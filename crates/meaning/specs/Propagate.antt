@@ -1,51 +1,15 @@
 -- 02, item 14, first statement: unit propagation alone gives the outputs that the decided inputs force.
-use mathlib.Core.Path.{_≡_, refl, sym, _∙_, ap, subst}
-use mathlib.Core.Bool.{Bool, true, false, not, true≢false, false≢true}
-use mathlib.Core.List.{List, [], _∷_, _++_, List·Memᴰ, List·Memᴰ·head, List·Memᴰ·tail, List·Memᴰ·cases-cons, List·Memᴰ·not-nil}
+use mathlib.Core.Path.{_≡_, refl}
+use mathlib.Core.Bool.{Bool, true, false, not}
+use mathlib.Core.List.{List, [], _∷_, List·Memᴰ, List·Memᴰ·head, List·Memᴰ·tail, List·Memᴰ·cases-cons, List·Memᴰ·not-nil}
 use mathlib.Core.Logic.{_⊎_, inl, inr}
-use Prim.Native.Nat.{ℕ, zero, suc, _+_, _*_, _-_, _<_, _≤_, min}
+use Prim.Native.Nat.{ℕ, zero, suc, _-_, _<_, _≤_, min}
 use native.Mathlib.Omega.{arith}
-use lib.IntN.{ℤ, pos, negsuc, negℤ, negℤ-negℤ}
+use lib.IntN.{ℤ, pos, negℤ, negℤ-negℤ}
 use lib.Dec.{ltb}
 use borrow.Author.Tests.{ltb-true}
 use Rattle.meaning.specs.Base.{AtPrev, prev, keep, In}
-use Rattle.meaning.specs.Table.{
-  Kind,
-  leaf,
-  dummy,
-  unit,
-  general,
-  Dir,
-  If,
-  OnlyIf,
-  Node,
-  Tab,
-  Marks,
-  litOf,
-  lit,
-  doneOf,
-  Done,
-  keyAt,
-  NotGeneral,
-  Inner,
-  IfPair,
-  OnlyPair,
-  ifOf,
-  onlyOf,
-  LeafOk,
-  UnitOk,
-  NodeOk,
-  Shape,
-  bit,
-  ValueOf,
-  Values,
-  History,
-  ClosedIf,
-  ClosedOnly,
-  Closed,
-  Marked,
-  Inv,
-}
+use Rattle.meaning.specs.Table.{Kind, leaf, dummy, unit, general, If, OnlyIf, Tab, Marks, litOf, lit, doneOf, Done, NotGeneral, OnlyPair, ifOf, onlyOf, NodeOk, bit, ValueOf, Values, History, Inv}
 use Rattle.meaning.specs.Sound.{strong, bound, key-small, ReachOf, choose-unit}
 
 -- what unit propagation makes true, from the clauses h and the literals that K fixes

@@ -1,38 +1,18 @@
 -- The rows of a run, and the table that they show. Taking a literal, appending own clauses and marking keep the invariant.
-use mathlib.Core.Path.{_≡_, refl, sym, _∙_, ap, subst}
-use mathlib.Core.Bool.{Bool, true, false, not, _&&_, _||_, true≢false, false≢true, cond}
+use mathlib.Core.Path.{_≡_, refl, sym, _∙_, ap}
+use mathlib.Core.Bool.{Bool, true, false, true≢false, false≢true, cond}
 use mathlib.Core.List.{List, [], _∷_, _++_, List·Memᴰ, Memᴰ·append-left}
-use mathlib.Core.Logic.{_⊎_, inl, inr, _≢_}
-use Prim.Native.Nat.{ℕ, zero, suc, _+_, _*_, _-_, _<_, _≤_, min}
+use mathlib.Core.Logic.{_⊎_, inl, inr}
+use Prim.Native.Nat.{ℕ, zero, suc, _+_, _<_, _≤_}
 use native.Mathlib.Decide.{ℕ-discrete}
 use native.Mathlib.Omega.{arith}
-use lib.IntN.{ℤ, pos, negsuc, negℤ, natAbs}
+use lib.IntN.{ℤ, pos, negsuc, natAbs}
 use lib.ListN.{length, getD, set, length-set}
 use lib.Seq.{getD-set-same, getD-set-other}
 use Rattle.paper.specs.Rows.{isZero, isNeg}
 use Rattle.paper.specs.Plain.{St, markOf, hasIf, hasOnly, hasNone, takenLits, takenNext}
 use Rattle.meaning.specs.Base.{AtPrev, at-prev-map}
-use Rattle.meaning.specs.Table.{
-  Kind,
-  leaf,
-  dummy,
-  unit,
-  general,
-  Dir,
-  If,
-  OnlyIf,
-  Node,
-  Tab,
-  Marks,
-  doneOf,
-  Done,
-  Inner,
-  History,
-  Closed,
-  Marked,
-  Own,
-  Inv,
-}
+use Rattle.meaning.specs.Table.{Kind, leaf, dummy, unit, general, Dir, If, OnlyIf, Node, Tab, Marks, doneOf, Done, Inner, History, Closed, Marked, Own, Inv}
 use Rattle.meaning.specs.Steps.{Taken, taken-ext, inv-take, inv-append, inv-mark, closed-marks}
 use Rattle.meaning.specs.Keep.{Ext, ext-refl, ext-trans, Below, below-of}
 

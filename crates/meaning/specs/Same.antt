@@ -1,8 +1,8 @@
 -- Two tables that read the same, and their marks: the invariant of one is that of the other.
-use mathlib.Core.Path.{_≡_, refl, sym, _∙_, ap, subst}
-use mathlib.Core.Bool.{Bool, true, false}
-use mathlib.Core.List.{List, List·Memᴰ}
-use mathlib.Core.Logic.{_⊎_, inl, inr}
+use mathlib.Core.Path.{_≡_, refl, sym, _∙_, ap}
+use mathlib.Core.Bool.{false}
+use mathlib.Core.List.{List}
+use mathlib.Core.Logic.{inl}
 use Prim.Native.Nat.{ℕ, suc, _+_, _<_, _≤_}
 use native.Mathlib.Omega.{arith}
 use lib.IntN.{ℤ, pos, natAbs}
@@ -10,10 +10,10 @@ use lib.ListN.{length, getD}
 use Rattle.paper.specs.Rows.{nodeAt, valueCount}
 use Rattle.paper.specs.Plain.{markOf, hasIf, hasOnly}
 use Rattle.paper.specs.declared.Node.{Node}
-use Rattle.meaning.specs.Table.{Kind, leaf, dummy, unit, general, Dir, If, OnlyIf, Tab, Marks, Inner, NodeOk, Shape, History, Cells, Inv}
-use Rattle.meaning.specs.Keep.{Ext, Step, inv-step}
+use Rattle.meaning.specs.Table.{Kind, leaf, dummy, unit, general, Dir, If, OnlyIf, Tab, Marks, Inner, NodeOk, History, Cells, Inv}
+use Rattle.meaning.specs.Keep.{Ext, inv-step}
 use Rattle.meaning.specs.Steps.{shape-ext, Added}
-use Rattle.meaning.specs.Rows.{Net, State, keyIn, heldIn, tabOf, marksOf, held-other, mark-other, key-other, hasMark, markIn, Room, Good}
+use Rattle.meaning.specs.Rows.{Net, State, heldIn, tabOf, marksOf, held-other, mark-other, key-other, hasMark, markIn, Good}
 use Rattle.meaning.specs.View.{kindOf, inputOf, nodeOf, netOf, Fit, word-is}
 
 pub record Alike (t t' : Tab) (m m' : Marks) : Type 0 where

@@ -8,7 +8,7 @@ use lib.IntN.{ℤ}
 use lib.ListN.{set}
 use Rattle.paper.specs.Span.{over}
 use Rattle.paper.specs.Rows.{nodeAt, conLits}
-use Rattle.paper.specs.Plain.{St, litAt, justIf, justOnly, takenLits, takenNext, ifClause, onlyClause, emitIf, emitOnly, emitBoth, finishOf, demandsOf, walkOf, planOf, stepOf, define, grow, start}
+use Rattle.paper.specs.Plain.{St, litAt, justIf, justOnly, takenLits, takenNext, ifClause, onlyClause, emitIf, emitOnly, emitBoth, finishOf, demandsOf, walkOf, planOf, stepOf, define}
 use Rattle.paper.specs.Weighted.{wayOf, turnsOf, jobOf, takeAt, markAt, emitWay, clauseAt, linkOf, linksOf, doOf, weigh}
 use Rattle.paper.specs.declared.Want.{Want}
 use Rattle.paper.specs.declared.Span.{Span}
@@ -21,8 +21,7 @@ use Rattle.paper.specs.declared.Way.{Way}
 use Rattle.paper.specs.declared.Job.{Job}
 use Rattle.paper.specs.declared.Job.the-variants.{Nothing, Count, Sum}
 use Rattle.meaning.specs.Table.{History}
-use Rattle.meaning.specs.Words.{flat}
-use Rattle.meaning.specs.Emit.{gather, gather-words, litsIn}
+use Rattle.meaning.specs.Emit.{gather, litsIn}
 
 -- the state with its clauses mapped
 abbrev pub through : {S T : Type 0} → (S → T) → St S → St T

@@ -1,58 +1,16 @@
 -- Theorem 1: whatever satisfies the history gives the marked outputs their meaning.
 use mathlib.Core.Path.{_≡_, refl, sym, _∙_, ap, subst}
-use mathlib.Core.Bool.{Bool, true, false, not, _&&_, _||_, true≢false, false≢true}
-use mathlib.Core.List.{List, [], _∷_, _++_, List·Memᴰ}
-use mathlib.Core.Logic.{_⊎_, inl, inr}
+use mathlib.Core.Bool.{Bool, true, false}
+use mathlib.Core.List.{[], _∷_}
+use mathlib.Core.Logic.{inl, inr}
 use Prim.Native.Nat.{ℕ, zero, suc, _+_, _*_, _-_, _<_, _≤_, min}
 use native.Mathlib.Decide.{decLe}
 use native.Mathlib.Omega.{arith}
-use lib.IntN.{ℤ, pos, negsuc, negℤ}
+use lib.IntN.{ℤ, pos, negℤ}
 use lib.Dec.{ltb}
 use borrow.Author.Tests.{ltb-true}
-use Rattle.meaning.specs.Base.{Nz, litv, var, ifClause, onlyClause, AtPrev, at-prev-map, Sat, prev, keep, pass-prev, pass-keep, nz-pos, neg-true, lit-neg, in-sat}
-use Rattle.meaning.specs.Table.{
-  Kind,
-  leaf,
-  dummy,
-  unit,
-  general,
-  Dir,
-  If,
-  OnlyIf,
-  Node,
-  Tab,
-  Marks,
-  litOf,
-  lit,
-  heldOf,
-  Held,
-  doneOf,
-  Done,
-  keyAt,
-  NotGeneral,
-  Inner,
-  IfPair,
-  OnlyPair,
-  ifOf,
-  onlyOf,
-  LeafOk,
-  UnitOk,
-  GeneralOk,
-  NodeOk,
-  Shape,
-  bit,
-  ValueOf,
-  Values,
-  History,
-  ClosedIf,
-  ClosedOnly,
-  Closed,
-  Marked,
-  Own,
-  Cells,
-  Inv,
-  AllSat,
-}
+use Rattle.meaning.specs.Base.{Nz, litv, AtPrev, Sat, prev, keep, pass-prev, pass-keep, nz-pos, neg-true, lit-neg, in-sat}
+use Rattle.meaning.specs.Table.{Kind, leaf, dummy, unit, general, Dir, If, OnlyIf, Tab, Marks, litOf, lit, doneOf, Done, keyAt, NotGeneral, IfPair, ifOf, onlyOf, UnitOk, GeneralOk, NodeOk, Shape, bit, ValueOf, Values, History, Marked, Inv, AllSat}
 
 pub strong : (P : ℕ → Type 0) → ((n : ℕ) → ((c : ℕ) → c < n → P c) → P n) → (n : ℕ) → P n
 strong P f n = below (suc n) n (omega arith)

@@ -1,62 +1,15 @@
 -- The elementary steps: take a variable, append own clauses, mark, clear marks, add a node. Each keeps the invariant.
-use mathlib.Core.Path.{_≡_, refl, sym, _∙_, ap, subst}
-use mathlib.Core.Bool.{Bool, true, false, not, _&&_, _||_, true≢false, false≢true, cond}
-use mathlib.Core.List.{List, [], _∷_, _++_, List·Memᴰ, List·Memᴰ·append-cases, Memᴰ·append-left, Memᴰ·append-right, List·Memᴰ·eq-of-singleton, List·Memᴰ·not-nil}
-use mathlib.Core.Logic.{_⊎_, inl, inr, _↔_}
-use Prim.Native.Nat.{ℕ, zero, suc, _+_, _*_, _-_, _<_, _≤_, min}
-use native.Mathlib.Decide.{decLe, decLt, ℕ-discrete}
+use mathlib.Core.Path.{_≡_, sym, _∙_}
+use mathlib.Core.Bool.{Bool, true, false, true≢false}
+use mathlib.Core.List.{List, [], _++_, List·Memᴰ, List·Memᴰ·append-cases, Memᴰ·append-left, List·Memᴰ·not-nil}
+use mathlib.Core.Logic.{_⊎_, inl, inr}
+use Prim.Native.Nat.{ℕ, suc, _<_, _≤_}
+use native.Mathlib.Decide.{decLt, ℕ-discrete}
 use native.Mathlib.Omega.{arith}
-use lib.IntN.{ℤ, pos, negsuc, negℤ}
-use Rattle.meaning.specs.Base.{Nz, litv, var, AtPrev, at-prev-map}
-use Rattle.meaning.specs.Table.{
-  Kind,
-  leaf,
-  dummy,
-  unit,
-  general,
-  Dir,
-  If,
-  OnlyIf,
-  Node,
-  Tab,
-  Marks,
-  litOf,
-  lit,
-  heldOf,
-  Held,
-  doneOf,
-  Done,
-  keyAt,
-  NotGeneral,
-  Inner,
-  IfPair,
-  OnlyPair,
-  ifOf,
-  onlyOf,
-  LeafOk,
-  UnitOk,
-  GeneralOk,
-  NodeOk,
-  Shape,
-  bit,
-  ValueOf,
-  Values,
-  History,
-  ClosedIf,
-  ClosedOnly,
-  Closed,
-  Marked,
-  FromIf,
-  FromOnly,
-  Cell,
-  Own,
-  ownIf,
-  ownOnly,
-  Cells,
-  Inv,
-  AllSat,
-}
-use Rattle.meaning.specs.Keep.{Ext, ext-refl, Below, below-of, Step, inv-step, key-ext, done-held}
+use lib.IntN.{ℤ}
+use Rattle.meaning.specs.Base.{AtPrev, at-prev-map}
+use Rattle.meaning.specs.Table.{Kind, leaf, dummy, unit, general, Dir, If, OnlyIf, Tab, Marks, doneOf, Done, NodeOk, Shape, History, Closed, Marked, Own, Cells, Inv}
+use Rattle.meaning.specs.Keep.{Ext, ext-refl, Below, below-of, inv-step, key-ext}
 
 -- the shape of a node of t stays in t'
 pub shape-ext : (t t' : Tab) (e : Ext t t') (n : ℕ) → n < t .size → (k : Kind) → NodeOk t n k → NodeOk t' n k

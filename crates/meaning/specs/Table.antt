@@ -1,13 +1,10 @@
 -- The table as plain data, values, own clauses, and the invariant of table, marks and history.
-use mathlib.Core.Path.{_≡_, refl, sym, _∙_, ap, subst}
-use mathlib.Core.Bool.{Bool, true, false, not, _&&_, _||_, true≢false, false≢true}
-use mathlib.Core.List.{List, [], _∷_, _++_, List·Memᴰ}
-use mathlib.Core.Logic.{_⊎_, inl, inr}
-use Prim.Native.Nat.{ℕ, zero, suc, _+_, _*_, _-_, _<_, _≤_}
-use native.Mathlib.Omega.{arith}
-use lib.IntN.{ℤ, pos, negsuc, negℤ}
-use lib.Dec.{ltb}
-use Rattle.meaning.specs.Base.{Nz, litv, var, ifClause, onlyClause, AtPrev, Same, In}
+use mathlib.Core.Path.{_≡_}
+use mathlib.Core.Bool.{Bool, true, false}
+use mathlib.Core.List.{List, List·Memᴰ}
+use Prim.Native.Nat.{ℕ, zero, suc, _+_, _*_, _<_, _≤_}
+use lib.IntN.{ℤ, pos}
+use Rattle.meaning.specs.Base.{Nz, var, ifClause, onlyClause, AtPrev, Same, In}
 
 pub data Kind : Type 0 where
   leaf dummy unit general : Kind

@@ -1,11 +1,11 @@
 -- The value of a node under an assignment of all variables, by 01's rule; it is what the call `value` answers, and its equations.
-use mathlib.Core.Path.{_≡_, refl, sym, _∙_, ap, ap₂, subst}
+use mathlib.Core.Path.{_≡_, refl, sym, _∙_, ap}
 use mathlib.Core.Bool.{Bool, true, false, not, cond}
 use mathlib.Core.List.{List}
-use Prim.Native.Nat.{ℕ, zero, suc, _+_, _*_, _<_, _≤_}
+use Prim.Native.Nat.{ℕ, zero, suc, _+_, _*_, _<_}
 use native.Mathlib.Numerals.{add-one}
 use native.Mathlib.Omega.{arith}
-use lib.IntN.{ℤ, pos, negsuc, natAbs}
+use lib.IntN.{ℤ, pos, negsuc}
 use lib.ListN.{getD}
 use lib.Dec.{eqb}
 use Rattle.paper.specs.Rows.{nodeAt, isLeaf, isDummy}
@@ -15,7 +15,7 @@ use Rattle.meaning.specs.Base.{litv}
 use Rattle.meaning.specs.Table.{Kind, leaf, dummy, unit, general, Tab, NodeOk, Shape, bit, ValueOf, Values}
 use Rattle.meaning.specs.Sound.{strong}
 use Rattle.meaning.specs.Rows.{Net, State, tabOf}
-use Rattle.meaning.specs.View.{kindOf, codeOf, netOf, Fit, test-is}
+use Rattle.meaning.specs.View.{kindOf, netOf, Fit, test-is}
 
 -- "leaf 1 if its literal is true, dummy 0, else the children's values times multipliers, added"
 -- b tells which literals count as true: `litv α` for an assignment α
@@ -118,6 +118,29 @@ module _ (ns : List ℕ) (ins : List ℤ) (keys : List ℕ) (size from len : ℕ
           let x = sum-opens n ∙ worth-is n s unit e _ _ ∙ inner _ _ _ _ (child n (nodeAt ns n .left) s (o .hl)) (child n (nodeAt ns n .right) s (o .hr)) in
           x ∙ rw (o .lmul-is, o .rmul-is) (omega arith)
       go general e o = sum-opens n ∙ worth-is n s general e _ _ ∙ inner _ _ _ _ (child n (nodeAt ns n .left) s (o .hl)) (child n (nodeAt ns n .right) s (o .hr))
+
+-- ---- rows that read the same below the counts give the same sums
+
+worth-alike : (n : Node) (ins ins' : List ℤ) (b : ℤ → Bool) (l r l' r' : ℕ) → (isLeaf n ≡ true → getD ins' (n .first) (pos 0) ≡ getD ins (n .first) (pos 0)) → l' ≡ l → r' ≡ r
+    → worthUnder n ins' b l' r' ≡ worthUnder n ins b l r
+unfolding worthUnder
+worth-alike n ins ins' b l r l' r' f x y = rw (x, y) (go (isLeaf n) refl)
+  where
+    go : (t : Bool) → isLeaf n ≡ t → cond t (bit (b (getD ins' (n .first) (pos 0)))) (cond (isDummy n) 0 (n .lmul * l + n .rmul * r)) ≡ cond t (bit (b (getD ins (n .first) (pos 0)))) (cond (isDummy n) 0 (n .lmul * l + n .rmul * r))
+    go true e = ap (λ (z : ℤ). bit (b z)) (f e)
+    go false e = refl
+
+pub sum-alike : (ns ns' : List ℕ) (ins ins' : List ℤ) (size : ℕ) (b : ℤ → Bool) → ((n : ℕ) → n < size → nodeAt ns' n ≡ nodeAt ns n)
+    → ((n : ℕ) → n < size → (nodeAt ns n .left < size) × (nodeAt ns n .right < size))
+    → ((n : ℕ) → n < size → isLeaf (nodeAt ns n) ≡ true → getD ins' (nodeAt ns n .first) (pos 0) ≡ getD ins (nodeAt ns n .first) (pos 0))
+    → (f n : ℕ) → n < size → sumUnder f ns' ins' b n ≡ sumUnder f ns ins b n
+unfolding sumUnder
+sum-alike ns ns' ins ins' size b same there leaves zero n s = refl
+sum-alike ns ns' ins ins' size b same there leaves (suc f) n s =
+    let (hl, hr) = there n s in
+    ap (λ (w : Node). worthUnder w ins' b (sumUnder f ns' ins' b (w .left)) (sumUnder f ns' ins' b (w .right))) (same n s)
+    ∙ worth-alike (nodeAt ns n) ins ins' b _ _ _ _ (leaves n s) (sum-alike ns ns' ins ins' size b same there leaves f (nodeAt ns n .left) hl)
+    (sum-alike ns ns' ins ins' size b same there leaves f (nodeAt ns n .right) hr)
 
 -- values by the same literals are the same
 pub values-unique : (t : Tab) → Shape t → (b : ℤ → Bool) (w v : ℕ → ℕ) → Values t b w → Values t b v → (n : ℕ) → n < t .size → w n ≡ v n

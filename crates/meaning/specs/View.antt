@@ -1,8 +1,8 @@
 -- The net that the words of a table show, what is asked of it, and the literals that a parent reads of a child.
-use mathlib.Core.Path.{_≡_, refl, sym, _∙_, ap, subst}
-use mathlib.Core.Bool.{Bool, true, false, cond, true≢false, false≢true}
-use mathlib.Core.List.{List, [], _∷_, _++_}
-use Prim.Native.Nat.{ℕ, zero, suc, _+_, _*_, _-_, _<_, _≤_, min}
+use mathlib.Core.Path.{_≡_, refl, _∙_, ap}
+use mathlib.Core.Bool.{true, false, cond, true≢false}
+use mathlib.Core.List.{List}
+use Prim.Native.Nat.{ℕ, zero, suc, _+_, _<_, _≤_}
 use native.Mathlib.Omega.{arith}
 use lib.IntN.{ℤ, pos, negsuc, natAbs}
 use lib.ListN.{length, getD, take, drop, length-take, length-drop}
@@ -10,7 +10,7 @@ use lib.Seq.{getD-take, getD-drop}
 use lib.Dec.{eqb}
 use Rattle.paper.specs.Rows.{nodeAt, wordFrom, valueCount, valueAt, conLits, isNeg}
 use Rattle.paper.specs.Plain.{litAt}
-use Rattle.meaning.specs.Table.{Kind, leaf, dummy, unit, general, Node, Tab, lit, Inner}
+use Rattle.meaning.specs.Table.{Kind, leaf, dummy, unit, general, Node, lit, Inner}
 use Rattle.meaning.specs.Rows.{Net, State, keyIn, tabOf, Room, Good}
 
 -- 0 leaf, 1 unit, 2 general, 3 dummy

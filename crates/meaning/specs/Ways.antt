@@ -1,11 +1,11 @@
 -- The ways in which a weighted demand makes up a value are just the pairs of the output's own clauses.
-use mathlib.Core.Path.{_≡_, refl, sym, _∙_, ap, subst}
-use mathlib.Core.Bool.{Bool, true, false, cond, true≢false, false≢true}
-use mathlib.Core.List.{List, [], _∷_}
+use mathlib.Core.Path.{_≡_, refl, sym, _∙_, ap}
+use mathlib.Core.Bool.{Bool, true, false, cond}
+use mathlib.Core.List.{List}
 use mathlib.Core.Logic.{_⊎_, inl, inr}
 use Prim.Native.Nat.{ℕ, zero, suc, _+_, _*_, _-_, _/_, _%_, _<_, _≤_}
 use native.Mathlib.Decide.{ℕ-discrete}
-use native.Mathlib.Nat.{mod-add-div, mul-mod-right, mul-div-cancel-left, eq-of-mul-eq-mul-left, mul-pos}
+use native.Mathlib.Nat.{mod-add-div, mul-mod-right, mul-div-cancel-left, mul-pos}
 use native.Mathlib.Omega.{arith}
 use lib.IntN.{ℤ}
 use lib.ListN.{getD}
@@ -17,9 +17,9 @@ use Rattle.paper.specs.declared.Found.{Found}
 use Rattle.paper.specs.declared.Found.the-variants.{At, Absent}
 use Rattle.paper.specs.declared.Way.{Way}
 use Rattle.meaning.specs.Base.{AtPrev}
-use Rattle.meaning.specs.Table.{Kind, leaf, dummy, unit, general, Tab, keyAt, NotGeneral, IfPair, NodeOk, Shape}
+use Rattle.meaning.specs.Table.{Kind, leaf, dummy, unit, general, Tab, NotGeneral, IfPair, Shape}
 use Rattle.meaning.specs.Sound.{key-small}
-use Rattle.meaning.specs.Rows.{Net, State, keyIn, tabOf}
+use Rattle.meaning.specs.Rows.{Net, State, tabOf}
 use Rattle.meaning.specs.View.{kindOf, netOf, keyOf, Sharp, Fit, test-is, count-is, value-is}
 
 -- what a search finds: the key of index q is v; or no key is

@@ -1,79 +1,32 @@
 -- The plain run of a weighted demand keeps the invariant, and what was asked is done.
 use mathlib.Core.Path.{_≡_, refl, sym, _∙_, ap, subst}
-use mathlib.Core.Bool.{Bool, true, false, cond, true≢false, false≢true}
-use mathlib.Core.List.{List, [], _∷_, _++_, List·Memᴰ, List·Memᴰ·head, Memᴰ·append-left, Memᴰ·append-right, List·Memᴰ·eq-of-singleton}
+use mathlib.Core.Bool.{Bool, true, false, cond, true≢false}
+use mathlib.Core.List.{List, [], _∷_, _++_, List·Memᴰ·head, Memᴰ·append-right, List·Memᴰ·eq-of-singleton}
 use mathlib.Core.Logic.{_⊎_, inl, inr}
-use Prim.Native.Nat.{ℕ, zero, suc, _+_, _*_, _-_, _<_, _≤_}
+use Prim.Native.Nat.{ℕ, zero, suc, _+_, _-_, _<_, _≤_}
 use native.Mathlib.Decide.{ℕ-discrete}
 use native.Mathlib.Omega.{arith}
 use lib.IntN.{ℤ, pos}
-use lib.ListN.{length, getD}
+use lib.ListN.{getD}
 use lib.Dec.{eqb}
-use borrow.Author.Tests.{eqb-true, eqb-false, eq-eqb, ne-eqb}
+use borrow.Author.Tests.{eqb-true, eqb-false, ne-eqb}
 use Rattle.paper.specs.Span.{over}
 use Rattle.paper.specs.Rows.{nodeAt, valueCount, conLits}
-use Rattle.paper.specs.Plain.{St, litAt, ifClause, justIf, define, markOf, hasIf, hasOnly}
+use Rattle.paper.specs.Plain.{litAt, ifClause, justIf, define, markOf, hasIf, hasOnly}
 use Rattle.paper.specs.Weighted.{wayOf, turnsOf, jobOf, takeAt, markAt, emitWay, clauseAt, linkOf, linksOf, doOf, weigh}
 use Rattle.paper.specs.declared.Way.{Way}
 use Rattle.paper.specs.declared.Job.{Job}
 use Rattle.paper.specs.declared.Job.the-variants.{Nothing, Count, Sum}
-use Rattle.paper.specs.declared.Mark.{Mark}
 use Rattle.paper.specs.declared.Mark.the-variants.{Unmarked, MarkedIf, MarkedOnlyIf, MarkedBoth}
 use Rattle.meaning.specs.Base.{AtPrev, prev, same-refl, in-of, in-sub}
-use Rattle.meaning.specs.Table.{
-  Kind,
-  leaf,
-  dummy,
-  unit,
-  general,
-  Dir,
-  If,
-  OnlyIf,
-  lit,
-  Done,
-  doneOf,
-  keyAt,
-  Inner,
-  IfPair,
-  ifOf,
-  GeneralOk,
-  NodeOk,
-  History,
-  ClosedIf,
-  Closed,
-  Own,
-  ownIf,
-}
-use Rattle.meaning.specs.Keep.{ext-refl, if-ext, at-done-held}
-use Rattle.meaning.specs.Rows.{
-  Net,
-  State,
-  tabOf,
-  marksOf,
-  hasMark,
-  Good,
-  Grow,
-  grow-refl,
-  grow-trans,
-  ensure,
-  put,
-  append,
-  held-inner,
-  mark-inner,
-  ensure-good,
-  still-done,
-  still-prev,
-  done-of-true,
-  put-at,
-  put-grow,
-  put-good,
-  append-good,
-  append-grow,
-}
-use Rattle.meaning.specs.View.{kindOf, netOf, keyOf, Sharp, Fit, test-is, count-is, lits-length, lits-at, cell-lit}
+use Rattle.meaning.specs.Table.{Kind, leaf, dummy, unit, general, Dir, If, OnlyIf, lit, Done, keyAt, Inner, IfPair, ifOf, GeneralOk, NodeOk, ClosedIf, Closed, Own, ownIf}
+use Rattle.meaning.specs.Keep.{if-ext, at-done-held}
+use Rattle.meaning.specs.Rows.{Net, State, tabOf, marksOf, hasMark, Good, Grow, grow-refl, grow-trans, ensure, put, append, held-inner, mark-inner, ensure-good, still-prev, done-of-true, put-at, put-grow, put-good, append-good, append-grow}
+use Rattle.meaning.specs.View.{kindOf, netOf, keyOf, Sharp, Fit, test-is, count-is, lits-at, cell-lit}
 use Rattle.meaning.specs.Emit.{gather, litsIn, if-lits}
-use Rattle.meaning.specs.Run.{define-good, leaf-done}
-use Rattle.meaning.specs.Ways.{Fair, way-fair, way-all}
+use Rattle.meaning.specs.Asked.{leaf-done}
+use Rattle.meaning.specs.Run.{define-good}
+use Rattle.meaning.specs.Ways.{way-fair, way-all}
 
 -- what a demand of the output at place y gives; place 0 is none
 pub record Placed (g : Net) (len : ℕ) (σ σ' : State) (n y : ℕ) : Type 0 where

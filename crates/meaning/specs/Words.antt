@@ -1,40 +1,15 @@
 -- Clauses as words: literals then 0. Reading the words back gives the clauses.
-use mathlib.Core.Path.{_≡_, refl, sym, _∙_, ap, subst}
+use mathlib.Core.Path.{_≡_, refl, _∙_, ap}
 use mathlib.Core.List.{List, [], _∷_, _++_, List·Memᴰ, List·Memᴰ·head, List·Memᴰ·tail, List·Memᴰ·cases-cons, List·Memᴰ·not-nil, append-assoc, append-nil}
 use mathlib.Core.Bool.{Bool, true, false}
 use mathlib.Core.Logic.{_⊎_, inl, inr}
-use Prim.Native.Nat.{ℕ, zero, suc, _<_, _≤_}
+use Prim.Native.Nat.{ℕ, zero, suc, _<_}
 use native.Mathlib.Omega.{arith}
 use lib.IntN.{ℤ, pos, negsuc, negℤ}
 use lib.Dec.{ltb}
 use borrow.Author.Tests.{ltb-true}
 use Rattle.meaning.specs.Base.{Nz, AtPrev, at-prev-map, prev, keep, nz-pos}
-use Rattle.meaning.specs.Table.{
-  Kind,
-  leaf,
-  dummy,
-  unit,
-  general,
-  Tab,
-  Marks,
-  litOf,
-  lit,
-  heldOf,
-  Held,
-  NodeOk,
-  Shape,
-  History,
-  ifOf,
-  onlyOf,
-  FromIf,
-  FromOnly,
-  Cell,
-  Own,
-  ownIf,
-  ownOnly,
-  Inv,
-  Inner,
-}
+use Rattle.meaning.specs.Table.{Kind, leaf, dummy, unit, general, Tab, Marks, litOf, lit, heldOf, Held, NodeOk, Shape, History, Own, ownIf, ownOnly, Inv}
 use Rattle.meaning.specs.Keep.{below-of}
 
 abbrev pub flat : History → List ℤ

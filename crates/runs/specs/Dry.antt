@@ -71,6 +71,10 @@ module _ (run : AnyRun) (laws : Runs run) (k : ℕ) (lits : List ℤ) (marks : L
         let e : run Row lay k (state lits marks row u) .next ≡ plain (u .next) .next = ap (λ (s : St Row). s .next) (run-is u h) in
         record { fuel = k; enough = le-refl k; within = omega arith }
 
+    -- where there are variables for every cell
+    pub few-ends : (u : Run) → u .words ≤ 2 ^ 62 → 1 ≤ u .next → u .next + length lits ≤ 2 ^ 31 → Ends k (λ f. run Row lay f (state lits marks row u))
+    few-ends u h s b = real-ends u h (omega (arith, next-bound (u .next) s, zeros-length lits))
+
     -- the counts of the dry run
     module _ (few : length lits < 2 ^ 31) (ls : List ℤ) (ms : List ℕ) (r : List ℤ) (d : Run) (is : (f : ℕ) → k ≤ f → state ls ms r d ≡ run Row lay f (state lits marks row (dryRun row))) where
       dry-is : state ls ms r d ≡ lift (laid row (length row)) (plain 1)

@@ -3,3 +3,5 @@ pub mod Counts
 pub mod Dry
 pub mod Met
 pub mod Used
+pub mod Size
+pub mod Dummy

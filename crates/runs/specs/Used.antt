@@ -31,12 +31,12 @@ abbrev pub runOf : Counters → Run
 runOf c = record { next = c .next; words = c .words }
 
 -- a literal's negation, with its variable below 2 ^ 31
-neg-low : (x : ℤ) → natAbs x < 2 ^ 31 → SFits w32 (negℤ x)
+pub neg-low : (x : ℤ) → natAbs x < 2 ^ 31 → SFits w32 (negℤ x)
 neg-low (pos zero) h = record { sfits = omega arith }
 neg-low (pos (suc n)) h = record { sfits = omega arith }
 neg-low (negsuc n) h = record { sfits = omega arith }
 
-neg-held : (x : ℤ) (f next : ℕ) → next ≤ 2 ^ 31 → (x ≡ pos 0) ⊎ Held x f next → SFits w32 (negℤ x)
+pub neg-held : (x : ℤ) (f next : ℕ) → next ≤ 2 ^ 31 → (x ≡ pos 0) ⊎ Held x f next → SFits w32 (negℤ x)
 neg-held x f next h o =
     ⊎-elim (λ e. rw e (neg-low (pos 0) (omega arith))) (λ v. rw (v .is) (neg-low (pos (v .var)) (omega (arith, v .below)))) o
 

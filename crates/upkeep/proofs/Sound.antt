@@ -17,7 +17,7 @@ use Rattle.paper.specs.Table.{tableOk}
 use Rattle.paper.specs.Upkeep.{byteAt, truthOf, worthOf, valueOf}
 use Rattle.paper.specs.declared.Node.{Node}
 use Rattle.paper.specs.declared.Counters.{Counters}
-use Rattle.upkeep.proofs.Members.{In, left-in, right-in, sum-in, in-at}
+use Rattle.facts.specs.Members.{In, left-in, right-in, sum-in, in-at}
 use Rattle.facts.specs.Facts.{TableFacts, table-facts, NodeFacts, NodeFactsAt, a-leaf, a-dummy, a-unit, a-general, GeneralFacts, UnitFacts, leaf-outputs, dummy-outputs, unit-outputs, general-outputs, leaf-low}
 use Rattle.upkeep.specs.Value.{Ready, Sound}
 use Rattle.upkeep.proofs.Worth.{worth-leaf, worth-dummy, worth-inner}
@@ -93,9 +93,9 @@ right-only m a k b e = rw (e, mul-zero m, zero-add (k * b))
 
 sum-key : (keys : List ℕ) (l r : Node) (lm rm a b : ℕ) → Got keys l a → Got keys r b → (lm * a + rm * b ≡ 0) ⊎ In (lm * a + rm * b) (nodeKeys keys l lm r rm)
 sum-key keys l r lm rm a b (nothing p) (nothing q) = inl (left-only lm a rm b q ∙ ap (λ (x : ℕ). lm * x) p ∙ mul-zero lm)
-sum-key keys l r lm rm a b (nothing p) (one j h e) = inr (rw (right-only lm a rm b p, e) (right-in (valueCount l) (conVal keys l lm) (valueCount r) (conVal keys r rm) (valueCount l) j h))
-sum-key keys l r lm rm a b (one i g d) (nothing q) = inr (rw (left-only lm a rm b q, d) (left-in (valueCount l) (conVal keys l lm) (valueCount r) (conVal keys r rm) (valueCount l) i g))
-sum-key keys l r lm rm a b (one i g d) (one j h e) = inr (rw (d, e) (sum-in (valueCount l) (conVal keys l lm) (valueCount r) (conVal keys r rm) (valueCount l) i j g h))
+sum-key keys l r lm rm a b (nothing p) (one j h e) = inr (rw (right-only lm a rm b p, e) (right-in (conVal keys l lm) (valueCount r) (conVal keys r rm) (valueCount l) j h))
+sum-key keys l r lm rm a b (one i g d) (nothing q) = inr (rw (left-only lm a rm b q, d) (left-in (conVal keys l lm) (valueCount r) (conVal keys r rm) (valueCount l) i g))
+sum-key keys l r lm rm a b (one i g d) (one j h e) = inr (rw (d, e) (sum-in (conVal keys l lm) (valueCount r) (conVal keys r rm) (valueCount l) i j g h))
 
 general-got : (keys marks : List ℕ) (n l r : Node) → n .kind ≡ 2 → GeneralFacts keys marks n l r → (y : ℕ) → In y (nodeKeys keys l (n .lmul) r (n .rmul)) → Got keys n y
 general-got keys marks n l r k g y m =

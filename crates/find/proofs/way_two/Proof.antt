@@ -1,7 +1,8 @@
+use borrow.Author.Tests.{ltb-true, ltb-false, leb-true, leb-false}
 use native.Mathlib.Omega.{arith}
 use mathlib.Core.Path.{_≡_, refl, sym, ap, _∙_}
 use Prim.Native.Nat.{ℕ, _+_, _-_, _*_, _/_, _%_, _<_, _≤_, _^_}
-use Rattle.paper.specs.Rows.{valueCount, valueAt}
+use Rattle.paper.specs.Rows.{valueCount, valueAt, conVal}
 use Rattle.paper.specs.Weighted.{joined, shareOf}
 use Rattle.find.proofs.Laws.{way-both, way-over, way-left, way-right}
 use native.Mathlib.Nat.{mul-le-mul}
@@ -32,7 +33,7 @@ mul-got c = let s = c .before .before .before .before .before in
 
 -- src/lib.rt:81:47
 sub-share-of : tie.Need-sub-share-of
-sub-share-of c = search needs
+sub-share-of c = omega (arith, ltb-true, leb-true)
 
 -- src/lib.rt:81:17
 share-of-requires : tie.Need-share-of-requires
@@ -51,15 +52,17 @@ returns : tie.Need-returns
 returns c = let s = c .before .before .before .before .before .before .before .before in
     let e = c .before .before .before .before .value-at .ensures .0 in
     let h : s .args .p < valueCount (s .args .l) = omega (arith, c .before .before .before .before .before .if1 .taken, c .before .before .before .before .before .before .con-len .ensures) in
+    let g : conVal (s .args .keys .now) (s .args .l) (s .args .n .lmul) (s .args .p) < s .args .v = rw (← e) (omega (arith, ltb-true, leb-true)) in
     c .join .ensures ∙ ap (joined (s .args .p + 1)) (c .before .share-of .ensures ∙ ap (λ (w : ℕ). shareOf (s .args .keys .now) (s .args .r) (s .args .n .rmul) (s .args .v - s .args .n .lmul * w)) e)
-    ∙ sym (way-both (s .args .keys .now) (s .args .n) (s .args .l) (s .args .r) (s .args .v) (s .args .p) h (rw (← e) (c .before .before .if2 .taken)))
+    ∙ sym (way-both (s .args .keys .now) (s .args .n) (s .args .l) (s .args .r) (s .args .v) (s .args .p) h g)
 
 -- src/lib.rt:84:9
 returns-2 : tie.Need-returns-2
 returns-2 c = let s = c .before .before .before .before .before .before in
     let e = c .before .before .value-at .ensures .0 in
     let h : s .args .p < valueCount (s .args .l) = omega (arith, c .before .before .before .if1 .taken, c .before .before .before .before .con-len .ensures) in
-    sym (way-over (s .args .keys .now) (s .args .n) (s .args .l) (s .args .r) (s .args .v) (s .args .p) h (rw (← e) (c .if2 .left)))
+    let g : s .args .v ≤ conVal (s .args .keys .now) (s .args .l) (s .args .n .lmul) (s .args .p) = rw (← e) (omega (arith, ltb-false, leb-false)) in
+    sym (way-over (s .args .keys .now) (s .args .n) (s .args .l) (s .args .r) (s .args .v) (s .args .p) h g)
 
 -- src/lib.rt:87:13
 share-of-requires-2 : tie.Need-share-of-requires-2

@@ -653,7 +653,7 @@ weigh-same-length-6 : (t : ℕ) → weigh-lts.Need-same-length-6 (
   links-below t,
   links.Post,
 ) (weigh-at t) weigh.Post
-weigh-same-length-6 t c = length-set (c .before .before .before .before .links .last .1 .1 .1 .1 .0) (c .before .before .before .before .before .before .before .before .before .before .before .before .j2 .given .0 .0) 1 ∙ c .before .before .before .before .links .kept .1 .1 .1 .1 .0
+weigh-same-length-6 t c = search needs
 
 -- src/lib.rt:56:1
 weigh-same-length-7 : (t : ℕ) → weigh-lts.Need-same-length-7 (

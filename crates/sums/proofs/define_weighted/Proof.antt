@@ -70,7 +70,7 @@ returns-3 : tie.Need-returns-3
 returns-3 c = let s = c .before .before .before .before .before .before .before .before .before .before .before .before in
     let t = sym (c .before .before .before .before .before .table-ok .ensures) ∙ not-false _ (c .before .before .before .before .if1 .left) in
     let w = sym (c .before .before .before .work-ok .ensures) ∙ not-false _ (c .before .before .if2 .left) in
-    (fails-node (s .args .nodes .now) (s .args .inputs .now) (s .args .keys .now) (s .args .lits .now) (s .args .marks .now) (length (s .args .clauses .now)) (length (s .args .ints .now)) (length (s .args .bytes .now)) (s .args .c) (s .args .id) (s .args .v) t w (c .if3 .taken), (refl, (refl, refl)))
+    (fails-node (s .args .nodes .now) (s .args .inputs .now) (s .args .keys .now) (s .args .lits .now) (s .args .marks .now) (length (s .args .clauses .now)) (length (s .args .ints .now)) (length (s .args .bytes .now)) (s .args .c) (s .args .id) (s .args .v) t w (omega (arith, c .if3 .taken)), (refl, (refl, refl)))
 
 -- src/lib.rt:142:17
 mul-words : tie.Need-mul-words
@@ -115,7 +115,7 @@ returns-4 : tie.Need-returns-4
 returns-4 c = let s = c .before .before .before .before .before .before .before .before .before .before .before .before .before .before .before .before .before .before in
     let t = sym (c .before .before .before .before .before .before .before .before .before .before .before .table-ok .ensures) ∙ not-false _ (c .before .before .before .before .before .before .before .before .before .before .if1 .left) in
     let w = sym (c .before .before .before .before .before .before .before .before .before .work-ok .ensures) ∙ not-false _ (c .before .before .before .before .before .before .before .before .if2 .left) in
-    (fails-output (s .args .nodes .now) (s .args .inputs .now) (s .args .keys .now) (s .args .lits .now) (s .args .marks .now) (length (s .args .clauses .now)) (length (s .args .ints .now)) (length (s .args .bytes .now)) (s .args .c) (s .args .id) (s .args .v) t w (c .before .before .before .before .before .before .if3 .left) (sym (c .before .before .output-of .ensures ∙ ap (λ (n : Node). outputOf (cellsUsed (s .args .keys .now) (s .args .c)) n (s .args .v)) (c .before .before .before .before .node-at .ensures)) ∙ c .enum-told .given .1), (refl, (refl, refl)))
+    (fails-output (s .args .nodes .now) (s .args .inputs .now) (s .args .keys .now) (s .args .lits .now) (s .args .marks .now) (length (s .args .clauses .now)) (length (s .args .ints .now)) (length (s .args .bytes .now)) (s .args .c) (s .args .id) (s .args .v) t w (omega (arith, c .before .before .before .before .before .before .if3 .left)) (sym (c .before .before .output-of .ensures ∙ ap (λ (n : Node). outputOf (cellsUsed (s .args .keys .now) (s .args .c)) n (s .args .v)) (c .before .before .before .before .node-at .ensures)) ∙ c .enum-told .given .1), (refl, (refl, refl)))
 
 -- src/lib.rt:150:9
 slice-aggregate-copy-and-meet : tie.Need-slice-aggregate-copy-and-meet
@@ -200,7 +200,7 @@ copy-and-meet-requires c κs = let s = c .before .before .before .before .before
     let a = work-cells _ _ _ w in (
       ready-of (s .args .nodes .now) f (omega (arith, s .good .1 .1 .1 .1 .1 .0)),
       (
-        here-at (s .args .nodes .now) f (omega (arith, s .good .1 .1 .1 .1 .1 .0)) (s .args .id) (s .args .v) _ (c .before .before .before .before .before .before .before .before .before .before .before .before .before .before .before .if3 .left) e,
+        here-at (s .args .nodes .now) f (omega (arith, s .good .1 .1 .1 .1 .1 .0)) (s .args .id) (s .args .v) _ (omega (arith, c .before .before .before .before .before .before .before .before .before .before .before .before .before .before .before .if3 .left)) e,
         (
           used-length _ _ (a .0) ∙ sym (used-length _ _ (f .lit-row)),
           used-length _ _ (a .1) ∙ sym (used-length _ _ (f .mark-row)),
@@ -234,7 +234,7 @@ returns-5 c = let s = c .before .before .before .before .before .before .before 
     let t = sym (c .before .before .before .before .before .before .before .before .before .before .before .before .before .before .before .before .before .before .before .before .before .before .before .before .before .before .before .before .table-ok .ensures) ∙ not-false _ (c .before .before .before .before .before .before .before .before .before .before .before .before .before .before .before .before .before .before .before .before .before .before .before .before .before .before .before .if1 .left) in
     let w = sym (c .before .before .before .before .before .before .before .before .before .before .before .before .before .before .before .before .before .before .before .before .before .before .before .before .before .before .work-ok .ensures) ∙ not-false _ (c .before .before .before .before .before .before .before .before .before .before .before .before .before .before .before .before .before .before .before .before .before .before .before .before .before .if2 .left) in
     let e : sumPlace (s .args .nodes .now) (s .args .keys .now) (s .args .c) (s .args .id) (s .args .v) ≡ At (c .before .before .before .before .before .before .before .before .before .before .before .before .before .before .before .before .before .j .given .0 .0) = sym (c .before .before .before .before .before .before .before .before .before .before .before .before .before .before .before .before .before .before .before .output-of .ensures ∙ ap (λ (n : Node). outputOf (cellsUsed (s .args .keys .now) (s .args .c)) n (s .args .v)) (c .before .before .before .before .before .before .before .before .before .before .before .before .before .before .before .before .before .before .before .before .before .node-at .ensures)) ∙ c .before .before .before .before .before .before .before .before .before .before .before .before .before .before .before .before .before .j .given .1 in
-    (met-answer (s .args .nodes .now) (s .args .inputs .now) (s .args .keys .now) (s .args .lits .now) (s .args .marks .now) (s .args .clauses .now) (length (s .args .ints .now)) (length (s .args .bytes .now)) (s .args .c) (s .args .id) (s .args .v) _ t w (c .before .before .before .before .before .before .before .before .before .before .before .before .before .before .before .before .before .before .before .before .before .before .before .if3 .left) e _ _ _ _ (c .before .before .before .before .before .before .before .copy-and-meet .ensures), (met-lits (s .args .nodes .now) (s .args .inputs .now) (s .args .keys .now) (s .args .lits .now) (s .args .marks .now) (s .args .clauses .now) (length (s .args .ints .now)) (length (s .args .bytes .now)) (s .args .c) (s .args .id) (s .args .v) _ t w (c .before .before .before .before .before .before .before .before .before .before .before .before .before .before .before .before .before .before .before .before .before .before .before .if3 .left) e _ _ _ _ (c .before .before .before .before .before .before .before .copy-and-meet .ensures), (met-marks (s .args .nodes .now) (s .args .inputs .now) (s .args .keys .now) (s .args .lits .now) (s .args .marks .now) (s .args .clauses .now) (length (s .args .ints .now)) (length (s .args .bytes .now)) (s .args .c) (s .args .id) (s .args .v) _ t w (c .before .before .before .before .before .before .before .before .before .before .before .before .before .before .before .before .before .before .before .before .before .before .before .if3 .left) e _ _ _ _ (c .before .before .before .before .before .before .before .copy-and-meet .ensures), met-clauses (s .args .nodes .now) (s .args .inputs .now) (s .args .keys .now) (s .args .lits .now) (s .args .marks .now) (s .args .clauses .now) (length (s .args .ints .now)) (length (s .args .bytes .now)) (s .args .c) (s .args .id) (s .args .v) _ t w (c .before .before .before .before .before .before .before .before .before .before .before .before .before .before .before .before .before .before .before .before .before .before .before .if3 .left) e _ _ _ _ (c .before .before .before .before .before .before .before .copy-and-meet .ensures))))
+    (met-answer (s .args .nodes .now) (s .args .inputs .now) (s .args .keys .now) (s .args .lits .now) (s .args .marks .now) (s .args .clauses .now) (length (s .args .ints .now)) (length (s .args .bytes .now)) (s .args .c) (s .args .id) (s .args .v) _ t w (omega (arith, c .before .before .before .before .before .before .before .before .before .before .before .before .before .before .before .before .before .before .before .before .before .before .before .if3 .left)) e _ _ _ _ (c .before .before .before .before .before .before .before .copy-and-meet .ensures), (met-lits (s .args .nodes .now) (s .args .inputs .now) (s .args .keys .now) (s .args .lits .now) (s .args .marks .now) (s .args .clauses .now) (length (s .args .ints .now)) (length (s .args .bytes .now)) (s .args .c) (s .args .id) (s .args .v) _ t w (omega (arith, c .before .before .before .before .before .before .before .before .before .before .before .before .before .before .before .before .before .before .before .before .before .before .before .if3 .left)) e _ _ _ _ (c .before .before .before .before .before .before .before .copy-and-meet .ensures), (met-marks (s .args .nodes .now) (s .args .inputs .now) (s .args .keys .now) (s .args .lits .now) (s .args .marks .now) (s .args .clauses .now) (length (s .args .ints .now)) (length (s .args .bytes .now)) (s .args .c) (s .args .id) (s .args .v) _ t w (omega (arith, c .before .before .before .before .before .before .before .before .before .before .before .before .before .before .before .before .before .before .before .before .before .before .before .if3 .left)) e _ _ _ _ (c .before .before .before .before .before .before .before .copy-and-meet .ensures), met-clauses (s .args .nodes .now) (s .args .inputs .now) (s .args .keys .now) (s .args .lits .now) (s .args .marks .now) (s .args .clauses .now) (length (s .args .ints .now)) (length (s .args .bytes .now)) (s .args .c) (s .args .id) (s .args .v) _ t w (omega (arith, c .before .before .before .before .before .before .before .before .before .before .before .before .before .before .before .before .before .before .before .before .before .before .before .if3 .left)) e _ _ _ _ (c .before .before .before .before .before .before .before .copy-and-meet .ensures))))
 
 pub define-weighted-spec : {M : Type 1} → statement M
 define-weighted-spec =

@@ -1,0 +1,62 @@
+use Prim.Native.Nat.{_≤_, _<_, _-_}
+use native.Mathlib.Omega.{arith}
+use lib.ListN.{length}
+use mathlib.Core.Path.{_≡_, refl}
+use Rattle.plans.proofs.decimal.digits_only.Statement.{statement}
+use Rattle.plans.proofs.decimal.digits_only.Tie as tie
+use Rattle.plans.proofs.decimal.digits_only.Reads as reads
+use Rattle.plans.proofs.decimal.digits_only.Lts as lts
+use Rattle.plans.proofs.decimal.digit.Reads as digit-reads
+
+abbrev Inv-loop : tie.InvT-loop
+Inv-loop s i₀ i = i ≤ length s
+
+abbrev μ-loop : tie.MeasureT-loop
+μ-loop s i₀ i = length s - i
+
+-- src/decimal.rt:87:5
+loop-holds : tie.Need-loop-holds Inv-loop μ-loop
+loop-holds c = omega arith
+
+-- src/decimal.rt:88:18
+shared-slice-read-digit : tie.Need-shared-slice-read-digit Inv-loop μ-loop
+shared-slice-read-digit c = omega arith
+
+-- src/decimal.rt:88:12
+digit-requires : tie.Need-digit-requires Inv-loop μ-loop
+digit-requires c κs = tt
+
+-- src/decimal.rt:89:13
+returns : tie.Need-returns Inv-loop μ-loop
+returns c = tt
+
+-- src/decimal.rt:91:9
+add-i : tie.Need-add-i Inv-loop μ-loop
+add-i c = omega arith
+
+-- src/decimal.rt:87:5
+loop-less : tie.Need-loop-less Inv-loop μ-loop
+loop-less c = omega arith
+
+-- src/decimal.rt:87:5
+loop-again : tie.Need-loop-again Inv-loop μ-loop
+loop-again c = omega arith
+
+-- src/decimal.rt:85:1
+returns-2 : tie.Need-returns-2 Inv-loop μ-loop
+returns-2 c = tt
+
+pub digits-only-spec : {M : Type 1} → statement M
+digits-only-spec =
+    tie.close
+    (tie.spec
+    Inv-loop
+    μ-loop
+    loop-holds
+    shared-slice-read-digit
+    digit-requires
+    returns
+    add-i
+    loop-less
+    loop-again
+    returns-2)

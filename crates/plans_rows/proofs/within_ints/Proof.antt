@@ -1,0 +1,20 @@
+use Prim.Native.Nat.{_≤_, _-_}
+use native.Mathlib.Omega.{arith}
+use mathlib.Core.Path.{_≡_, sym}
+use lib.ListN.{length}
+use lib.Seq.{length-take-le}
+use Rattle.plans_rows.proofs.within_ints.Statement.{statement}
+use Rattle.plans_rows.proofs.within_ints.Tie as tie
+use Rattle.plans_rows.proofs.within_ints.Reads as reads
+use Rattle.plans_rows.proofs.within_ints.Lts as lts
+
+-- src/lib.rt:66:1
+returns : tie.Need-returns
+returns c = (omega arith, sym (length-take-le _ _ (omega arith)))
+
+-- src/lib.rt:66:1
+returns-2 : tie.Need-returns-2
+returns-2 c = (omega arith, sym (length-take-le _ _ (omega arith)))
+
+pub within-ints-spec : {M : Type 1} → statement M
+within-ints-spec = tie.close (tie.spec returns returns-2)
