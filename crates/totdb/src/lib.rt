@@ -10,6 +10,9 @@ pub use paper::Pair;
 pub use paper::Refusal;
 pub use paper::Semantics;
 pub use paper::Valued;
+// The table check once more, over a lent row of node records instead of the words: the same verdict (`words-same` of crate records).
+pub use records::Record;
+pub use records::check_records;
 ghost use mathlib.Core.Path.{_≡_};
 ghost use Rattle.paper.specs.Grow.{freshOf};
 ghost use Rattle.paper.specs.Calls.{checked};
