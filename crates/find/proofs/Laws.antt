@@ -16,7 +16,7 @@ use Rattle.paper.specs.declared.Found.the-variants.{At, Absent}
 use Rattle.paper.specs.declared.Way.{Way}
 use Rattle.paper.specs.declared.Job.{Job}
 use Rattle.paper.specs.declared.Job.the-variants.{Nothing, Count, Sum}
-use Rattle.find.specs.Ways.{Place}
+use Rattle.find.specs.Ways.{Sorted, Muls, Place}
 
 -- ---- counts
 
@@ -51,25 +51,6 @@ count-general n e = count-inner n (λ z. omega arith) (λ z. omega arith)
 -- ---- the search
 
 module _ (keys : List ℕ) (first v : ℕ) where
-  -- what the search from k on gives, with n keys left
-  pub key-hit : (count k : ℕ) → k < count → getD keys (first + k) 0 ≡ v → keyFrom keys first v (count - k) k ≡ At k
-  unfolding keyFrom
-  key-hit count k h e =
-      let s : count - k ≡ suc (count - (k + 1)) = omega arith in
-      rw (s, eq-eqb (getD keys (first + k) 0) v e)
-
-  pub key-miss : (count k : ℕ) → k < count → (getD keys (first + k) 0 ≡ v → ⊥) → keyFrom keys first v (count - k) k ≡ keyFrom keys first v (count - (k + 1)) (k + 1)
-  unfolding keyFrom
-  key-miss count k h e =
-      let s : count - k ≡ suc (count - (k + 1)) = omega arith in
-      rw (s, ne-eqb (getD keys (first + k) 0) v e)
-
-  pub key-end : (count k : ℕ) → count ≤ k → keyFrom keys first v (count - k) k ≡ Absent
-  unfolding keyFrom
-  key-end count k h =
-      let s : count - k ≡ 0 = omega arith in
-      rw s
-
   place-cond : (b : Bool) (a c : Found) (n : ℕ) → placeOf a ≤ n → placeOf c ≤ n → placeOf (cond b a c) ≤ n
   place-cond true a c n p q = p
   place-cond false a c n p q = q
@@ -168,6 +149,13 @@ module _ (keys : List ℕ) (n l r : Node) (v p : ℕ) where
       (λ _. within-none))
       (λ _. within-cond (eqb p (valueCount l)) _ _ (λ _. record { left = share-place keys l (n .lmul) v; right = omega arith })
       (λ _. record { left = omega arith; right = share-place keys r (n .rmul) v }))
+
+-- what is asked of a node, of one that is read
+pub muls-by : (n m : Node) → n ≡ m → Muls m → Muls n
+muls-by n m e h = rw e h
+
+pub sorted-by : (keys : List ℕ) (n m : Node) → n ≡ m → Sorted keys m → Sorted keys n
+sorted-by keys n m e h = rw e h
 
 -- ---- jobs
 

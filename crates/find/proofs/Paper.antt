@@ -19,6 +19,7 @@ use Rattle.paper.specs.declared.Clause.{Clause}
 use Rattle.paper.specs.declared.Found.{Found}
 use Rattle.paper.specs.declared.Found.the-variants.{At, Absent}
 use Rattle.paper.specs.declared.Way.{Way}
+use Rattle.find.specs.Ways.{Rising}
 use Rattle.find.proofs.Laws.{count-leaf, count-general, output-general, output-zero, output-past, output-at, way-left, way-right}
 
 -- ---- what a lookup finds
@@ -44,6 +45,60 @@ sought keys first v (suc n) k = go (eqb (getD keys (first + k) 0) v) refl (sough
     go : (b : Bool) → eqb (getD keys (first + k) 0) v ≡ b → Sought keys first v n (k + 1) (keyFrom keys first v n (k + 1)) → Sought keys first v (suc n) k (cond b (At k) (keyFrom keys first v n (k + 1)))
     go true e s = (omega arith, eqb-true _ _ e)
     go false e s = sought-step keys first v n k (keyFrom keys first v n (k + 1)) (eqb-false _ _ e) s
+
+-- ---- the search by halves
+
+pub above : (a b : ℕ) → b ≤ a → (a ≡ b → ⊥) → b < a
+above a b h e = omega arith
+
+module _ (keys : List ℕ) (first v count : ℕ) where
+  -- nothing is found where no key is v
+  pub key-none : ((i : ℕ) → i < count → getD keys (first + i) 0 ≡ v → ⊥) → Absent ≡ keyFrom keys first v count 0
+  key-none none = go (keyFrom keys first v count 0) (sought keys first v count 0)
+    where
+      go : (f : Found) → Sought keys first v count 0 f → Absent ≡ f
+      go (At i) s = let a = s .0 in absurd (none i (omega arith) (s .1))
+      go Absent s = refl
+
+  -- .. which none is, if each is below or above it
+  pub none-left : (lo hi : ℕ) → hi ≤ lo → ((i : ℕ) → i < lo → getD keys (first + i) 0 < v) → ((i : ℕ) → hi ≤ i → i < count → v < getD keys (first + i) 0)
+      → (i : ℕ) → i < count → getD keys (first + i) 0 ≡ v → ⊥
+  none-left lo hi h below over i l e = go (ltb i lo) refl
+    where
+      go : (b : Bool) → ltb i lo ≡ b → ⊥
+      go true q = omega (arith, below i (ltb-true i lo q))
+      go false q = let g = ltb-false i lo q in omega (arith, over i (omega arith) l)
+
+  module _ (r : Rising keys first count) (j : ℕ) (h : j < count) where
+    -- in keys that ascend, a key that is v is the one found
+    pub key-is : getD keys (first + j) 0 ≡ v → At j ≡ keyFrom keys first v count 0
+    key-is e = go (keyFrom keys first v count 0) (sought keys first v count 0)
+      where
+        same : (i : ℕ) → i < count → getD keys (first + i) 0 ≡ v → (a b : Bool) → ltb i j ≡ a → ltb j i ≡ b → j ≡ i
+        same i l q true b x y = absurd (let z : ⊥ = omega (arith, r .rise i j (ltb-true i j x) h) in z)
+        same i l q false true x y = absurd (let z : ⊥ = omega (arith, r .rise j i (ltb-true j i y) l) in z)
+        same i l q false false x y = omega (arith, ltb-false i j x, ltb-false j i y)
+
+        go : (f : Found) → Sought keys first v count 0 f → At j ≡ f
+        go (At i) s = let a = s .0 in ap At (same i (omega arith) (s .1) (ltb i j) (ltb j i) refl refl)
+        go Absent s = absurd (s j (omega arith) (omega arith) e)
+
+    -- below a key that is below v all are, and above one that is above v
+    pub key-below : getD keys (first + j) 0 < v → (i : ℕ) → i < j + 1 → getD keys (first + i) 0 < v
+    key-below g i l = go (ℕ-discrete i j)
+      where
+        go : Dec (i ≡ j) → getD keys (first + i) 0 < v
+        go (yes e) = rw e g
+        go (no e) = omega (arith, r .rise i j (omega arith) h)
+
+    pub key-above : v < getD keys (first + j) 0 → (i : ℕ) → j ≤ i → i < count → v < getD keys (first + i) 0
+    key-above g i l k = go (ℕ-discrete i j)
+      where
+        go : Dec (i ≡ j) → v < getD keys (first + i) 0
+        go (yes e) = rw e g
+        go (no e) = omega (arith, r .rise j i (omega arith) k)
+
+-- ---- the outputs by value
 
 -- an output of value v, or none has it
 abbrev pub Finds : List ℕ → Node → ℕ → Found → Type 0

@@ -14,24 +14,34 @@ ghost use Prim.Native.Nat.{ℕ, _<_, _≤_, _^_};
 ghost use lib.ListN.{length};
 ghost use Rattle.paper.specs.Rows.{nodeAt, conLen};
 ghost use Rattle.paper.specs.Weighted.{keyFrom, outputOf, shareOf, joined, wayTwo, wayOf, turnsOf, jobOf};
-ghost use Rattle.find.specs.Ways.{Muls, Place};
+ghost use Rattle.find.specs.Ways.{Rising, Sorted, Muls, Place};
 
-// "search the keys for v": the first of count keys behind first that is v.
+// "search the keys for v": the place of v among count keys behind first. The keys ascend, so that each step halves what is left: those
+// before lo are below v, and those from hi on above it.
 pub fn find_key(keys: &[u32], first: usize, count: usize, v: usize) -> Found
+    requires { ⌜ Rising (now keys) first count ⌝ }
     ensures { λ r. ⌜ r ≡ keyFrom (now (keys .entry)) first v count 0 ⌝ }
 {
-    let mut k = 0;
-    while k < count {
-        if word_from(keys, first, k) == v {
-            return Found::At(k);
+    let mut lo = 0;
+    let mut hi = count;
+    while lo < hi {
+        let mid = lo + (hi - lo) / 2;
+        let key = word_from(keys, first, mid);
+        if key == v {
+            return Found::At(mid);
         }
-        k += 1;
+        if key < v {
+            lo = mid + 1;
+        } else {
+            hi = mid;
+        }
     }
     Found::Absent
 }
 
 // The output of value v: a leaf and a unit have the values from 1 on, a general node its keys.
 pub fn output_of(keys: &[u32], n: Node, v: usize) -> Found
+    requires { ⌜ Sorted (now keys) n ⌝ }
     ensures { λ r. ⌜ r ≡ outputOf (now (keys .entry)) n v ⌝ }
 {
     if n.kind == 2 {
@@ -49,6 +59,7 @@ pub fn output_of(keys: &[u32], n: Node, v: usize) -> Found
 // The place, counted from 1, of the output that times m is v; 0 where there is none.
 pub fn share_of(keys: &[u32], n: Node, m: usize, v: usize) -> usize
     requires { ⌜ 1 ≤ m ⌝ }
+    requires { ⌜ Sorted (now keys) n ⌝ }
     ensures { λ r. ⌜ r ≡ shareOf (now (keys .entry)) n m v ⌝ }
 {
     if v % m == 0 {
@@ -72,6 +83,7 @@ fn join(x: usize, y: usize) -> Way
 
 fn way_two(keys: &[u32], n: Node, l: Node, r: Node, v: usize, p: usize) -> Way
     requires { ⌜ Muls n ⌝ }
+    requires { ⌜ Sorted (now keys) l × Sorted (now keys) r ⌝ }
     ensures { λ a. ⌜ a ≡ wayTwo (now (keys .entry)) n l r v p ⌝ }
 {
     let a = con_len(l);
@@ -95,6 +107,7 @@ fn way_two(keys: &[u32], n: Node, l: Node, r: Node, v: usize, p: usize) -> Way
 // The p-th way to make up v at node id: the pairs by the left output, then left alone, then right alone.
 pub fn way_at(nodes: &[u32], keys: &[u32], id: usize, v: usize, p: usize) -> Way
     requires { ⌜ Muls (nodeAt (now nodes) id) ⌝ }
+    requires { ⌜ Sorted (now keys) (nodeAt (now nodes) (nodeAt (now nodes) id .left)) × Sorted (now keys) (nodeAt (now nodes) (nodeAt (now nodes) id .right)) ⌝ }
     ensures { λ a. ⌜ a ≡ wayOf (now (nodes .entry)) (now (keys .entry)) id v p ⌝ }
 {
     let n = node_at(nodes, id);

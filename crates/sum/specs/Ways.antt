@@ -9,18 +9,20 @@ use Rattle.paper.specs.Rows.{nodeAt}
 use Rattle.paper.specs.declared.Way.{Way}
 use Rattle.clause.specs.Row.{Neg}
 use Rattle.count.specs.Run.{Ok, outs}
-use Rattle.find.specs.Ways.{Muls}
+use Rattle.find.specs.Ways.{Sorted, Muls}
 
 -- what the table check gives of a general node
-pub record GeneralOk (ns : List ℕ) (k : ℕ) : Type 0 where
+pub record GeneralOk (ns keys : List ℕ) (k : ℕ) : Type 0 where
   pub left-below : nodeAt ns k .left < k
   pub right-below : nodeAt ns k .right < k
   pub muls : Muls (nodeAt ns k)
   pub few : outs ns (nodeAt ns k .left) < 2 ^ 32
+  pub left-sorted : Sorted keys (nodeAt ns (nodeAt ns k .left))
+  pub right-sorted : Sorted keys (nodeAt ns (nodeAt ns k .right))
 
 -- .. and of all of them
-abbrev pub Generals : List ℕ → Type 0
-Generals ns = (k : ℕ) → k < length ns / nodeWords → nodeAt ns k .kind ≡ 2 → GeneralOk ns k
+abbrev pub Generals : List ℕ → List ℕ → Type 0
+Generals ns keys = (k : ℕ) → k < length ns / nodeWords → nodeAt ns k .kind ≡ 2 → GeneralOk ns keys k
 
 -- place y of node k: 0, or an output
 pub record Spot (ns : List ℕ) (k y : ℕ) : Type 0 where

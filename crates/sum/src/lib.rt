@@ -65,7 +65,7 @@ pub fn weigh(
     run: Run,
 ) -> Run
     requires { ⌜ Fit (now nodes) (now inputs) (now lits) (now marks) run ⌝ }
-    requires { ⌜ Generals (now nodes) ⌝ }
+    requires { ⌜ Generals (now nodes) (now keys) ⌝ }
     requires { ⌜ Spot (now nodes) id y ⌝ }
     requires { ⌜ Ends (id + 1) (λ f. weigh lay f (now nodes) (now inputs) (now keys) id y (state (now lits) (now marks) (now row) run)) ⌝ }
     ensures { λ r. ⌜ Ran (now (nodes .entry)) (now (inputs .entry)) (id + 1)
@@ -109,7 +109,7 @@ fn links(
     run: Run,
 ) -> Run
     requires { ⌜ Fit (now nodes) (now inputs) (now lits) (now marks) run ⌝ }
-    requires { ⌜ Generals (now nodes) ⌝ }
+    requires { ⌜ Generals (now nodes) (now keys) ⌝ }
     requires { ⌜ CellAt (now nodes) (length (now lits)) id at ⌝ }
     requires { ⌜ Ends id (λ f. linksOf lay (weigh lay f (now nodes) (now inputs) (now keys)) (now nodes) (now inputs) (now keys) id at v (state (now lits) (now marks) (now row) run)) ⌝ }
     ensures { λ r. ⌜ Ran (now (nodes .entry)) (now (inputs .entry)) id
@@ -141,7 +141,7 @@ fn link(
     run: Run,
 ) -> Run
     requires { ⌜ Fit (now nodes) (now inputs) (now lits) (now marks) run ⌝ }
-    requires { ⌜ Generals (now nodes) ⌝ }
+    requires { ⌜ Generals (now nodes) (now keys) ⌝ }
     requires { ⌜ WayAt (now nodes) (length (now lits)) id at p ⌝ }
     requires { ⌜ Ends id (λ f. linkOf lay (weigh lay f (now nodes) (now inputs) (now keys)) (now nodes) (now inputs) id at p (state (now lits) (now marks) (now row) run)) ⌝ }
     ensures { λ r. ⌜ Ran (now (nodes .entry)) (now (inputs .entry)) id

@@ -24,12 +24,14 @@ use Rattle.paper.specs.declared.Found.the-variants.{At, Absent}
 use Rattle.paper.specs.declared.Refusal.the-variants.{NoSuchOutput, TableFails, WorkShort, NoSuchNode}
 use Rattle.paper.specs.declared.Demanded.{Demanded}
 use Rattle.paper.specs.declared.Demanded.the-variants.{NotGiven}
-use Rattle.facts.specs.Facts.{TableFacts, NodeFactsAt, a-leaf, a-dummy, a-unit, a-general, used-length}
+use Rattle.facts.specs.Facts.{TableFacts, NodeFactsAt, a-leaf, a-dummy, a-unit, a-general, used-at, used-length}
+use Rattle.facts.specs.Members.{key-ascend}
 use Rattle.runs.specs.Used.{runOf, nodes-length, same-node, fit-of, back}
 use Rattle.runs.specs.Counts.{weighing, weighing-runs}
 use Rattle.runs.specs.Dry.{dryRun, Known, Real, dry-ends, known, real-ends, real}
 use Rattle.clause.specs.Row.{lay}
 use Rattle.count.specs.Run.{Here, state, Ends}
+use Rattle.find.specs.Ways.{Rising, Sorted}
 use Rattle.find.proofs.Laws.{output-place}
 use Rattle.sum.specs.Ways.{GeneralOk, Generals}
 use Rattle.sum.proofs.Laws.{outs-few}
@@ -39,28 +41,47 @@ use Rattle.sums.specs.Ready.{Ready, MetSum}
 
 module _ (nodes : List ℕ) {inputs : List ℤ} {keys : List ℕ} {lits : List ℤ} {marks : List ℕ} {clauses : ℕ} {c : Counters}
     (t : TableFacts (nodeAt nodes) (length nodes / nodeWords) inputs keys lits marks clauses c) (small : clauses ≤ 2 ^ 62) where
-  generals-of : Generals (nodesUsed nodes c)
+  -- the keys of a general node, in the part in use, ascend
+  pub sorted-of : (k : ℕ) → k < c .nodes → Sorted (cellsUsed keys c) (nodeAt nodes k)
+  sorted-of k h = record { general = go (t .node k h) }
+    where
+      go : NodeFactsAt (nodeAt nodes) keys marks (c .cells) k → nodeAt nodes k .kind ≡ 2 → Rising (cellsUsed keys c) (nodeAt nodes k .first) (nodeAt nodes k .count)
+      go (a-leaf e f) u = absurd (omega (arith, u))
+      go (a-dummy e f) u = absurd (omega (arith, u))
+      go (a-unit e f g) u = absurd (omega (arith, u))
+      go (a-general e f g) u =
+          record {
+            rise = λ i j a b.
+                let p = used-at (c .cells) keys (nodeAt nodes k .first + i) 0 (omega (arith, f .within)) in
+                let q = used-at (c .cells) keys (nodeAt nodes k .first + j) 0 (omega (arith, f .within)) in
+                rw (p, q) (key-ascend g i j a b);
+          }
+
+  generals-of : Generals (nodesUsed nodes c) (cellsUsed keys c)
   generals-of k h u = go (t .node k (omega (arith, nodes-length nodes t)))
     where
       at-kind : nodeAt nodes k .kind ≡ 2
       at-kind = sym (ap (λ (n : Node). n .kind) (same-node nodes t k h)) ∙ u
 
-      go : NodeFactsAt (nodeAt nodes) keys marks (c .cells) k → GeneralOk (nodesUsed nodes c) k
+      go : NodeFactsAt (nodeAt nodes) keys marks (c .cells) k → GeneralOk (nodesUsed nodes c) (cellsUsed keys c) k
       go (a-leaf e f) = absurd (omega (arith, at-kind))
       go (a-dummy e f) = absurd (omega (arith, at-kind))
       go (a-unit e f g) = absurd (omega (arith, at-kind))
       go (a-general e f g) =
           let l : nodeAt nodes k .left < length (nodesUsed nodes c) / nodeWords = omega (arith, f .left-low) in
+          let r : nodeAt nodes k .right < length (nodesUsed nodes c) / nodeWords = omega (arith, f .right-low) in
           let few = outs-few (nodesUsed nodes c) _ _ (nodeAt nodes k .left) (fit-of nodes t small .ok) l in
           let e = same-node nodes t k h in
           record {
             left-below = rw e (f .left-low);
             right-below = rw e (f .right-low);
             muls = rw e (record { left-some = g .lmul-low; left-small = omega (arith, g .lmul-high); right-some = g .rmul-low });
+            left-sorted = rw (e, same-node nodes t (nodeAt nodes k .left) l) (sorted-of (nodeAt nodes k .left) (omega (arith, nodes-length nodes t)));
+            right-sorted = rw (e, same-node nodes t (nodeAt nodes k .right) r) (sorted-of (nodeAt nodes k .right) (omega (arith, nodes-length nodes t)));
             few = rw e (omega (arith, few, used-length (c .cells) lits (t .lit-row), t .counters .cell-limit));
           }
 
-  pub ready-of : Ready (nodesUsed nodes c) (inputsUsed inputs c) (cellsUsed lits c) (cellsUsed marks c) clauses c
+  pub ready-of : Ready (nodesUsed nodes c) (inputsUsed inputs c) (cellsUsed keys c) (cellsUsed lits c) (cellsUsed marks c) clauses c
   ready-of =
       record {
         fit = fit-of nodes t small;

@@ -15,9 +15,9 @@ use Rattle.runs.specs.Met.{Met}
 use Rattle.runs.specs.Used.{runOf}
 
 -- the parts in use of the rows of a table that passes its check, with a clause row of the length given
-pub record Ready (ns : List ℕ) (ins lits : List ℤ) (marks : List ℕ) (clauses : ℕ) (c : Counters) : Type 0 where
+pub record Ready (ns : List ℕ) (ins : List ℤ) (keys : List ℕ) (lits : List ℤ) (marks : List ℕ) (clauses : ℕ) (c : Counters) : Type 0 where
   pub fit : Fit ns ins lits marks (runOf c)
-  pub generals : Generals ns
+  pub generals : Generals ns keys
   pub few : length lits < 2 ^ 31
   pub words : c .words ≤ clauses
   pub last : c .last ≤ varLimit

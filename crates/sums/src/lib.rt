@@ -34,7 +34,7 @@ fn meet_sum(
     id: usize,
     j: usize,
 ) -> Demanded
-    requires { ⌜ Ready (now nodes) (now inputs) (now lits) (now marks) (length (now clauses)) c ⌝ }
+    requires { ⌜ Ready (now nodes) (now inputs) (now keys) (now lits) (now marks) (length (now clauses)) c ⌝ }
     requires { ⌜ Here (now nodes) id j ⌝ }
     requires { ⌜ (now ints ≡ now lits) × (now bytes ≡ now marks) ⌝ }
     ensures { λ r. ⌜ MetSum (now (nodes .entry)) (now (inputs .entry)) (now (keys .entry)) c id j
@@ -87,7 +87,7 @@ fn copy_and_meet(
     id: usize,
     j: usize,
 ) -> Demanded
-    requires { ⌜ Ready (now nodes) (now inputs) (now lits) (now marks) (length (now clauses)) c ⌝ }
+    requires { ⌜ Ready (now nodes) (now inputs) (now keys) (now lits) (now marks) (length (now clauses)) c ⌝ }
     requires { ⌜ Here (now nodes) id j ⌝ }
     requires { ⌜ (length (now ints) ≡ length (now lits)) × (length (now bytes) ≡ length (now marks)) ⌝ }
     ensures { λ r. ⌜ MetSum (now (nodes .entry)) (now (inputs .entry)) (now (keys .entry)) c id j

@@ -11,44 +11,44 @@ use Rattle.find.proofs.share_of.Reads as reads
 use Rattle.find.proofs.share_of.Lts as lts
 use Rattle.find.proofs.output_of.Reads as output-of-reads
 
--- src/lib.rt:54:8
+-- src/lib.rt:65:8
 rem-if1 : tie.Need-rem-if1
 rem-if1 c = search needs
 
--- src/lib.rt:55:47
+-- src/lib.rt:66:47
 div-output-of : tie.Need-div-output-of
 div-output-of c = search needs
 
--- src/lib.rt:55:28
+-- src/lib.rt:66:28
 output-of-requires : tie.Need-output-of-requires
-output-of-requires c κs = search needs
+output-of-requires c κs = c .before .before .pre .1
 
--- src/lib.rt:55:23
+-- src/lib.rt:66:23
 enum-known-j : tie.Need-enum-known-j
 enum-known-j c = search needs
 
--- src/lib.rt:56:13
+-- src/lib.rt:67:13
 enum-told : tie.Need-enum-told
 enum-told c = search needs
 
--- src/lib.rt:56:13
+-- src/lib.rt:67:13
 returns : tie.Need-returns
 returns c = let s = c .before .before .before .before .before in
     share-yes (s .args .keys .now) (s .args .n) (s .args .m) (s .args .v) _ (c .before .before .before .if1 .taken) (sym (c .enum-told .given .1) ∙ c .before .before .output-of .ensures)
 
--- src/lib.rt:58:16
+-- src/lib.rt:69:16
 add-result : tie.Need-add-result
 add-result c = let s = c .before .before .before .before .before .before in
     let e = sym (c .before .j .given .1) ∙ c .before .before .before .output-of .ensures in
     let h : c .before .j .given .0 .0 + 1 ≡ _ = ap placeOf e in
     omega (arith, h, output-place (s .args .keys .now) (s .args .n) (s .args .v / s .args .m), count-fits (s .args .n) (search needs))
 
--- src/lib.rt:58:9
+-- src/lib.rt:69:9
 returns-2 : tie.Need-returns-2
 returns-2 c = let s = c .before .before .before .before .before .before in
     share-yes (s .args .keys .now) (s .args .n) (s .args .m) (s .args .v) _ (c .before .before .before .before .if1 .taken) (sym (c .before .j .given .1) ∙ c .before .before .before .output-of .ensures)
 
--- src/lib.rt:50:1
+-- src/lib.rt:60:1
 returns-3 : tie.Need-returns-3
 returns-3 c = sym (share-no _ _ _ _ (c .if1 .left))
 

@@ -276,7 +276,9 @@ links-way-at-requires : (t : ℕ) → links-lts.Need-way-at-requires (
   link-below t,
   link.Post,
 ) (links-at t) links.Post links-Inv-loop links-μ-loop
-links-way-at-requires t c κs = let s = c .before .before .before .before .before .before in s .pre .1 .1 .0 (s .args .id) (s .pre .1 .1 .1 .0 .below) (s .pre .1 .1 .1 .0 .general) .muls
+links-way-at-requires t c κs = let s = c .before .before .before .before .before .before in
+    let g = s .pre .1 .1 .0 (s .args .id) (s .pre .1 .1 .1 .0 .below) (s .pre .1 .1 .1 .0 .general) in
+    (g .muls, (g .left-sorted, g .right-sorted))
 
 -- src/lib.rt:124:9
 links-link-requires : (t : ℕ) → links-lts.Need-link-requires (

@@ -10,7 +10,8 @@ use Rattle.paper.specs.Demand.{cellsUsed, sumPlace}
 use Rattle.paper.specs.declared.Node.{Node}
 use Rattle.paper.specs.declared.Found.the-variants.{At}
 use Rattle.facts.specs.Facts.{table-facts, words-fit, used-length}
-use Rattle.sums.proofs.Laws.{ready-of, here-at, work-cells, fails-table, fails-work, fails-node, fails-output, met-answer, met-lits, met-marks, met-clauses}
+use Rattle.find.proofs.Laws.{sorted-by}
+use Rattle.sums.proofs.Laws.{sorted-of, ready-of, here-at, work-cells, fails-table, fails-work, fails-node, fails-output, met-answer, met-lits, met-marks, met-clauses}
 use borrow.Author.Needs.{needs}
 use Rattle.sums.proofs.define_weighted.Statement.{statement}
 use Rattle.sums.proofs.define_weighted.Tie as tie
@@ -92,7 +93,10 @@ slice-aggregate-output-of c = let s = c .before .before .before .before .before 
 
 -- src/lib.rt:146:24
 output-of-requires : tie.Need-output-of-requires
-output-of-requires c κs = search needs
+output-of-requires c κs = let s = c .before .before .before .before .before .before .before .before .before .before .before .before .before .before .before in
+    let t = sym (c .before .before .before .before .before .before .before .before .table-ok .ensures) ∙ not-false _ (c .before .before .before .before .before .before .before .if1 .left) in
+    let f = table-facts _ _ _ _ _ _ _ _ t in
+    sorted-by _ _ _ (c .before .node-at .ensures) (sorted-of (s .args .nodes .now) f (omega (arith, s .good .1 .1 .1 .1 .1 .0)) (s .args .id) (omega (arith, c .before .before .before .if3 .left)))
 
 -- src/lib.rt:146:19
 enum-known-j : tie.Need-enum-known-j
