@@ -221,24 +221,20 @@ def trees():
         leaves = list(range(n))
         for items in [leaves] + [leaves[:k] + ["d"] + leaves[k:] for k in range(n + 1)]:
             for t in shapes(items):
-                if isinstance(t, tuple):
-                    yield n, "d" in items, t
+                yield n, "d" in items, t
 
 
-def orders(n, long):
-    """The demands of a tree with n outputs, in all orders: of length 3, which has those of length 1 and 2 as its beginnings.
-    `long`: also those in which a demand comes again; without it those of three different demands."""
+def orders(n):
+    """The demands of a tree with n outputs, in all orders, repeats too: of length 3, which has those of length 1 and 2 as its beginnings."""
     asked = [(i, d) for i in range(n) for d in SEMANTICS]
-    if long:
-        return list(itertools.product(asked, repeat=3))
-    return list(itertools.permutations(asked, 3))
+    return itertools.product(asked, repeat=3)
 
 
 def exhaustive():
     """Each tree many times in one table, each time with other demands, so that a plan is short."""
     lines, ids = [], {}
-    for n, padded, t in trees():
-        for demands in orders(n, n < 3 or not padded):
+    for n, _, t in trees():
+        for demands in orders(n):
             if not lines or made > 90:
                 if lines:
                     yield lines
@@ -263,7 +259,7 @@ def weighted_exhaustive():
     """Every tree of up to 3 leaves with multipliers 1 to 3 that 01 accepts, each value, ascending or descending."""
     lines, made = [], 0
     for n, padded, t in trees():
-        if padded:
+        if padded or n == 1:
             continue
         inner = 2 * (n - 1)
         for muls in itertools.product((1, 2, 3), repeat=inner):
