@@ -22,6 +22,7 @@ use Rattle.paper.specs.declared.Demanded.{Demanded}
 use Rattle.paper.specs.declared.Demanded.the-variants.{Given, NotGiven}
 use Rattle.facts.specs.Facts.{TableFacts, table-facts, node-used, used-length}
 use Rattle.facts.specs.Carry.{used-facts, general-mark, general-within}
+use Rattle.facts.specs.Taken.{order-size, order-up}
 use Rattle.facts.specs.Kept.{cells-change}
 use Rattle.facts.specs.Rel.{output-place}
 use Rattle.facts.specs.Ran.{Laid, laid, Ran, Good, define-ran, weigh-ran, ran-cell, ran-low}
@@ -88,13 +89,13 @@ module _ (nodes : List ℕ) (inputs : List ℤ) (keys : List ℕ) (lits : List �
   demand-keeps b p r vars words =
       let f = used .counters in
       let t = table-facts (nodeAt nodes) _ inputs keys lits marks clauses c ok in
-      let el : length (p .lits) ≡ c .cells = r .taken .size ∙ used-length (c .cells) lits (t .lit-row) in
+      let el : length (p .lits) ≡ c .cells = order-size (r .order) ∙ used-length (c .cells) lits (t .lit-row) in
       let em : length (p .marks) ≡ c .cells = r .size ∙ used-length (c .cells) marks (t .mark-row) in
       let mark-at : (j : ℕ) → j < c .cells → getD (cellsBack (p .marks) marks c) j 0 ≡ getD (p .marks) j 0 = λ j h. List·getD-append (p .marks) (drop (c .cells) marks) 0 j (omega arith) in
       cells-change nodes inputs keys lits marks clauses c ok (cellsBack (p .lits) lits c) (cellsBack (p .marks) marks c) (p .next) (c .words + length (p .out))
       (omega (arith, length-append (p .lits) (drop (c .cells) lits))) (omega (arith, length-append (p .marks) (drop (c .cells) marks)))
-      (omega (arith, f .next-low, r .taken .up)) vars words
-      (λ i h. rw (List·getD-append (p .lits) (drop (c .cells) lits) (pos 0) i (omega arith), mark-at i h) (ran-cell (c .first) (f .next-low) r i (used .cell i h)))
+      (omega (arith, f .next-low, order-up (r .order))) vars words
+      (λ i h. rw (List·getD-append (p .lits) (drop (c .cells) lits) (pos 0) i (omega arith), mark-at i h) (ran-cell (c .first) (f .first-low) (f .next-low) r i (used .cell i h)))
       (λ i h k j o. let w = general-within (t .node i h) k in
       rw (mark-at (nodeAt nodes i .first + j) (omega arith))
       (subst (λ (n : Node). n .kind ≡ 2 → j < n .count → getD (p .marks) (n .first + j) 0 ≤ 1) (node-used nodes (c .nodes) i h)

@@ -8,7 +8,7 @@ use native.Mathlib.Numerals.{add-one}
 use lib.ListN.{length, getD, take, drop, length-append, List·getD-append}
 use lib.Seq.{sets, sets-eq, length-take-le, drop-at}
 use lib.Dec.{ltb}
-use lib.IntN.{ℤ}
+use lib.IntN.{ℤ, pos}
 use borrow.Author.Tests.{ltb-true, ne-eqb}
 use Rattle.paper.specs.Rows.{nodeAt, isZero, valueCount, conLits}
 use Rattle.paper.specs.Plain.{justIf, wantOf, litAt, St, define, grow, start, plainRun}
@@ -42,12 +42,13 @@ use Rattle.paper.specs.declared.Refusal.the-variants.{
 }
 use Rattle.paper.specs.declared.Demanded.{Demanded}
 use Rattle.paper.specs.declared.Demanded.the-variants.{Given, NotGiven}
-use Rattle.facts.specs.Facts.{table-facts, unit-outputs, general-outputs, node-used, used-length}
+use Rattle.facts.specs.Facts.{table-facts, unit-outputs, general-outputs, node-used, used-length, used-at}
 use Rattle.facts.specs.Carry.{moved}
+use Rattle.facts.specs.Taken.{cellLit, Taken, order-size, order-taken}
 use Rattle.facts.specs.Rel.{CellOf, unit-place, output-place}
 use Rattle.facts.specs.Ran.{Ran}
 use Rattle.facts.specs.Demands.{used-laid, used-good, count-ran, sum-ran, Through, count-done, sum-done, roomy}
-use Rattle.facts.specs.Runs.{kept-words, Met, want-asks, unit-met, sum-marked, count-answer, sum-answer, count-rows, sum-rows, cell-in, unweighted-met, weighted-met}
+use Rattle.facts.specs.Runs.{kept-words, Met, want-asks, unit-met, sum-marked, count-answer, sum-answer, count-rows, sum-rows, count-last, place-first, cell-in, unweighted-met, weighted-met}
 
 -- no refusal has the number 0
 pub number-some : (w : Refusal) → 1 ≤ numberOf w
@@ -77,9 +78,11 @@ pub said-given : (r : Demanded) (c : Counters) → demandedSaid r c .number ≡ 
 said-given (Given z c') c h = record { literal = z; counters = c'; is = refl }
 said-given (NotGiven w) c h = absurd (omega (arith, number-some w))
 
--- from d to what a leaves, by a demand of node id that is done
+-- From d to what a leaves, by a demand of node id that is done. Its literals: what was there stays and the new ones are next, .., next' - 1, each in one
+-- cell (`taken`); they are taken in the order of a list of cells (`run .order`)
 pub record DemandDone (d : Db) (id : ℕ) (a : After) : Type 0 where
   pub answer : isZero (a .said .value) ≡ false
+  pub taken : Taken (d .lits) (d .counters .next) (a .db .lits) (a .db .counters .next)
   pub run : Ran (nodesUsed (d .nodes) (d .counters)) (d .counters .nodes) (id + 1) (d .lits) (d .marks) (d .counters .next) (a .db .lits) (a .db .marks) (a .db .counters .next)
   pub counters : a .db .counters ≡ moved (d .counters) (a .db .counters .next) (a .db .counters .words)
   pub words-up : d .counters .words ≤ a .db .counters .words
@@ -125,12 +128,13 @@ done-law d id b r p z c' ok e some ec room part run = subst (λ (x : Demanded). 
         let t = table-facts (nodeAt (d .nodes)) _ (d .inputs) (d .keys) (d .lits) (d .marks) (length (d .clauses)) c ok in
         record {
           answer = some;
+          taken = order-taken (omega (arith, t .counters .first-low, t .counters .next-low)) (q .order);
           run = q;
           counters = refl;
           words-up = omega arith;
           words-kept = kept-words (d .clauses) (c .words) (p .out) room;
           words-past = past-words (d .clauses) (c .words) (p .out) room;
-          lits-past = drop-at (p .lits) (drop (c .cells) (d .lits)) (c .cells) (part .taken .size ∙ used-length (c .cells) (d .lits) (t .lit-row));
+          lits-past = drop-at (p .lits) (drop (c .cells) (d .lits)) (c .cells) (order-size (part .order) ∙ used-length (c .cells) (d .lits) (t .lit-row));
           marks-past = drop-at (p .marks) (drop (c .cells) (d .marks)) (c .cells) (part .size ∙ used-length (c .cells) (d .marks) (t .mark-row));
         }
 
@@ -165,6 +169,68 @@ weighted-done d w id v h =
     (q .counters) (q .words)
     (sum-ran (d .nodes) (d .inputs) (d .keys) (d .lits) (d .marks) (length (d .clauses)) c (t .table-ok) id v (ltb-true _ _ (t .here-ok)))
     (sum-rows (d .nodes) (d .inputs) (d .keys) (d .lits) (d .marks) (length (d .clauses)) (w .ints) (w .bytes) c id v (g .literal) (g .counters) (g .is))
+
+-- ---- where the demanded output's literal stands in the order
+
+-- "Take a literal" comes after the children: where a unit's output had no literal, the answer is the last one taken
+pub unweighted-last : (d : Db) (w : Work) (id i : ℕ) (m : Semantics) → unweightedCall d w id i m .said .number ≡ 0
+    → nodeAt (d .nodes) id .kind ≡ 1 → cellLit (d .lits) (nodeAt (d .nodes) id .first + i) ≡ pos 0
+    → (v : ℕ) × (unweightedCall d w id i m .said .value ≡ pos v) × (unweightedCall d w id i m .db .counters .next ≡ v + 1)
+unfolding unweightedCall
+unweighted-last d w id i m h k none =
+    let c = d .counters in
+    let r = countOf (d .nodes) (d .inputs) (d .keys) (d .lits) (d .marks) (length (d .clauses)) (w .ints) (w .bytes) c id i (wantOf m) in
+    let p = countRun (d .nodes) (d .inputs) (d .lits) (d .marks) c id i (wantOf m) in
+    let g = said-given r c h in
+    let t = count-done (d .nodes) (d .inputs) (d .keys) (d .lits) (d .marks) (length (d .clauses)) (w .ints) (w .bytes) c id i (wantOf m) (g .literal) (g .counters) (g .is) in
+    let q = roomy p c (length (d .clauses)) (litAt (conLits (nodesUsed (d .nodes) c) (inputsUsed (d .inputs) c) (p .lits) id) i) (g .literal) (g .counters) (t .given) in
+    let here = ltb-true _ _ (t .here-ok) in
+    let out : i < valueCount (nodeAt (d .nodes) id) = ltb-true _ _ (t .output-ok) in
+    let e : nodeAt (nodesUsed (d .nodes) c) id ≡ nodeAt (d .nodes) id = node-used (d .nodes) (c .nodes) id here in
+    let low = cell-in (d .nodes) (d .inputs) (d .keys) (d .lits) (d .marks) (length (d .clauses)) c (t .table-ok) id i here out (ne-eqb (nodeAt (d .nodes) id .kind) 0 (λ x. omega arith)) in
+    let last = count-last (d .nodes) (d .inputs) (d .keys) (d .lits) (d .marks) (length (d .clauses)) c (t .table-ok) id i (wantOf m) here (ap (λ (x : Node). x .kind) e ∙ k) (rw (e) out) (want-asks m)
+    (ap (λ (x : Node). cellLit (cellsUsed (d .lits) c) (x .first + i)) e ∙ used-at (c .cells) (d .lits) (nodeAt (d .nodes) id .first + i) (pos 0) low ∙ none) in (
+      last .0,
+      ap (λ (x : Demanded). demandedSaid x c .value) (g .is) ∙ sym (q .answer) ∙ last .1,
+      ap (λ (x : Demanded). demandedSaid x c .counters .next) (g .is) ∙ ap (λ (x : Counters). x .next) (sym (q .counters)) ∙ last .2,
+    )
+
+-- "before the children": where a general node's output had no literal, the answer is the first one taken
+pub weighted-first : (d : Db) (w : Work) (id v : ℕ) → weightedCall d w id v .said .number ≡ 0
+    → nodeAt (d .nodes) id .kind ≡ 2 → cellLit (d .lits) (nodeAt (d .nodes) id .first + indexOf (sumPlace (d .nodes) (d .keys) (d .counters) id v)) ≡ pos 0
+    → weightedCall d w id v .said .value ≡ pos (d .counters .next)
+unfolding weightedCall
+weighted-first d w id v h k none =
+    let r = sumOf (d .nodes) (d .inputs) (d .keys) (d .lits) (d .marks) (length (d .clauses)) (w .ints) (w .bytes) c id v in
+    let p = sumRun (d .nodes) (d .inputs) (d .keys) (d .lits) (d .marks) c id v in
+    let g = said-given r c h in
+    let t = sum-done (d .nodes) (d .inputs) (d .keys) (d .lits) (d .marks) (length (d .clauses)) (w .ints) (w .bytes) c id v (g .literal) (g .counters) (g .is) in
+    let q = roomy p c (length (d .clauses)) (litAt (conLits N I (p .lits) id) (indexOf o)) (g .literal) (g .counters) (t .given) in
+    ap (λ (x : Demanded). demandedSaid x c .value) (g .is) ∙ sym (q .answer)
+    ∙ go (t .table-ok) (ltb-true _ _ (t .here-ok)) o (output-place (cellsUsed (d .keys) c) (nodeAt (d .nodes) id) v) (t .output-ok) none
+  where
+    c : Counters
+    c = d .counters
+
+    N : List ℕ
+    N = nodesUsed (d .nodes) c
+
+    I : List ℤ
+    I = inputsUsed (d .inputs) c
+
+    o : Found
+    o = sumPlace (d .nodes) (d .keys) c id v
+
+    go : tableOk (d .nodes) (d .inputs) (d .keys) (d .lits) (d .marks) (length (d .clauses)) c ≡ true → id < c .nodes
+        → (a : Found) → placeOf a ≤ valueCount (nodeAt (d .nodes) id) → isAt a ≡ true → cellLit (d .lits) (nodeAt (d .nodes) id .first + indexOf a) ≡ pos 0
+        → litAt (conLits N I (weighRun N I (cellsUsed (d .keys) c) (cellsUsed (d .lits) c) (cellsUsed (d .marks) c) (c .next) id (placeOf a) .lits) id) (indexOf a) ≡ pos (c .next)
+    go ok here Absent low q z = absurd (let y : _≡_ {A = ℕ} 0 1 = cc in omega arith)
+    go ok here (At j) low q z =
+        let e : nodeAt N id ≡ nodeAt (d .nodes) id = node-used (d .nodes) (c .nodes) id here in
+        let out : j < valueCount (nodeAt (d .nodes) id) = omega arith in
+        let cell = cell-in (d .nodes) (d .inputs) (d .keys) (d .lits) (d .marks) (length (d .clauses)) c ok id j here out (ne-eqb (nodeAt (d .nodes) id .kind) 0 (λ x. omega arith)) in
+        place-first (d .nodes) (d .inputs) (d .keys) (d .lits) (d .marks) (length (d .clauses)) c ok id j here (ap (λ (x : Node). x .kind) e ∙ k) (rw (e) out)
+        (ap (λ (x : Node). cellLit (cellsUsed (d .lits) c) (x .first + j)) e ∙ used-at (c .cells) (d .lits) (nodeAt (d .nodes) id .first + j) (pos 0) cell ∙ z)
 
 -- ---- the same demand once more
 

@@ -17,7 +17,7 @@ use Rattle.paper.specs.Keys.{nodeKeys}
 use Rattle.paper.specs.Table.{tableOk, workOk}
 use Rattle.paper.specs.Grow.{freshOf, leafNode, dummyNode, leafPlan, leafAdded, leafNodes, leafInputs, dummyPlan, dummyAdded, dummyNodes}
 use Rattle.paper.specs.Join.{innerNode, innerPlan, innerAdded, innerNodes, innerKeys, innerLits, innerMarks, newKeys}
-use Rattle.paper.specs.Plain.{St, wantOf, takenLits}
+use Rattle.paper.specs.Plain.{St, wantOf}
 use Rattle.paper.specs.Demand.{cellsUsed, ranCounters, countRun, countOf, sumRun, sumOf, demandedLits, demandedMarks, demandedClauses}
 use Rattle.paper.specs.Upkeep.{Stock, stock, give, giveAll, cellsFrom, placesOf, reservedBy, withNext, reserveAnswer, reserveOf, keptRow, resetOf, clearedMarks, emptyOf}
 use Rattle.paper.specs.Numbers.{begunSaid, addedSaid, demandedSaid, keptSaid}
@@ -42,7 +42,7 @@ use Rattle.facts.specs.Facts.{NodeFactsAt, a-leaf, a-dummy, a-unit, a-ge
 use Rattle.facts.specs.Words.{put-above, put-length}
 use Rattle.facts.specs.Pastes.{paste-past, count-length}
 use Rattle.facts.specs.Plans.{Fitted, UnitMade, GeneralMade, InnerMade, inner-made}
-use Rattle.facts.specs.Taken.{Take, took, left, take-case, all-taken}
+use Rattle.facts.specs.Taken.{take-else, order-size, all-taken}
 use Rattle.facts.specs.Demands.{count-ran, sum-ran, count-done, sum-done, roomy}
 
 -- ---- a call that is refused leaves the database as it was
@@ -319,7 +319,7 @@ unweighted-past d w id i m =
     let r = roomy p c (length (d .clauses)) _ z c' (t .given) in
     let q = count-ran (d .nodes) (d .inputs) (d .keys) (d .lits) (d .marks) (length (d .clauses)) c (t .table-ok) id i (wantOf m) (ltb-true _ _ (t .here-ok)) (ltb-true _ _ (t .output-ok)) in
     let f = table-facts (nodeAt (d .nodes)) _ (d .inputs) (d .keys) (d .lits) (d .marks) (length (d .clauses)) c (t .table-ok) in
-    (r .counters, q .taken .size, q .size, f .lit-row, f .mark-row))
+    (r .counters, order-size (q .order), q .size, f .lit-row, f .mark-row))
 
 weighted-past : (d : Db) (w : Work) (id v : ℕ) → Past d (weightedCall d w id v .db)
 unfolding weightedCall
@@ -332,7 +332,7 @@ weighted-past d w id v =
     let r = roomy p c (length (d .clauses)) _ z c' (t .given) in
     let q = sum-ran (d .nodes) (d .inputs) (d .keys) (d .lits) (d .marks) (length (d .clauses)) c (t .table-ok) id v (ltb-true _ _ (t .here-ok)) in
     let f = table-facts (nodeAt (d .nodes)) _ (d .inputs) (d .keys) (d .lits) (d .marks) (length (d .clauses)) c (t .table-ok) in
-    (r .counters, q .taken .size, q .size, f .lit-row, f .mark-row))
+    (r .counters, order-size (q .order), q .size, f .lit-row, f .mark-row))
 
 -- ---- reserve: the cells of a node and of those below it lie in the cells in use
 
@@ -373,17 +373,10 @@ places-below {keys = keys} {marks = marks} {c = c} ns t (suc f) id h = go (place
     go rec (a-unit k x y) false ea false eb = own rec (x .left-low) (x .right-low) (x .within)
     go rec (a-general k x y) false ea false eb = own rec (x .left-low) (x .right-low) (x .within)
 
-take-past : (l : List ℤ) (at n j : ℕ) → at < j → getD (takenLits l at n) j (pos 0) ≡ getD l j (pos 0)
-take-past l at n j h = go (take-case l at n)
-  where
-    go : Take l at n → getD (takenLits l at n) j (pos 0) ≡ getD l j (pos 0)
-    go (took a z el en) = rw (el) (getD-set-other l at j (pos n) (pos 0) (λ e. omega arith))
-    go (left a el en) = rw (el)
-
 give-past : (n : ℕ) (ks : List ℕ) (s : Stock) (j : ℕ) → AllBelow n ks → n ≤ j → getD (giveAll ks s .lits) j (pos 0) ≡ getD (s .lits) j (pos 0)
 unfolding giveAll give
 give-past n [] s j b h = refl
-give-past n (k ∷ ks) s j b h = give-past n ks (give k s) j (b .1) h ∙ take-past (s .lits) k (s .next) j (omega (arith, b .0))
+give-past n (k ∷ ks) s j b h = give-past n ks (give k s) j (b .1) h ∙ take-else (s .lits) k (s .next) j (λ e. omega (arith, b .0))
 
 reserve-past : (d : Db) (w : Work) (id : ℕ) → Past d (reserveCall d w id .db)
 unfolding reserveCall reserveOf reserveAnswer

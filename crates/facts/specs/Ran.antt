@@ -20,7 +20,7 @@ use Rattle.paper.specs.declared.Clause.{Clause}
 use Rattle.paper.specs.declared.Way.{Way}
 use Rattle.paper.specs.declared.Counters.{Counters}
 use Rattle.facts.specs.Facts.{CellFacts, NodeFactsAt, a-leaf, a-dummy, a-unit, a-general, TableFacts, cells-apart}
-use Rattle.facts.specs.Taken.{cellLit, not-zero, Taken, taken-refl, taken-held, taken-one, take-held, taken-trans}
+use Rattle.facts.specs.Taken.{cellLit, not-zero, take-else, take-held, InOrder, order-refl, order-one, order-trans, order-size, order-up, order-held, order-taken}
 use Rattle.facts.specs.Kept.{held-taken, some-or}
 use Rattle.facts.specs.Rel.{Falls, falls, CellOf, Stepped, Summed, define-rel, define-case, weigh-rel, sum-case}
 
@@ -130,7 +130,8 @@ pub data Move (ns : List ℕ) (nodes j m m' : ℕ) (x' : ℤ) : Type 0 where
 -- ---- the relation: from literals l, marks m, next variable n to l', m', n', through nodes below b
 
 pub record Ran (ns : List ℕ) (nodes b : ℕ) (l : List ℤ) (m : List ℕ) (n : ℕ) (l' : List ℤ) (m' : List ℕ) (n' : ℕ) : Type 0 where
-  pub taken : Taken l n l' n'
+  pub order : InOrder l n l' n'
+  pub lit-far : (k i : ℕ) → b ≤ k → k < nodes → Inner (nodeAt ns k) → i < nodeAt ns k .count → cellLit l' (nodeAt ns k .first + i) ≡ cellLit l (nodeAt ns k .first + i)
   pub size : length m' ≡ length m
   pub mark : (j : ℕ) → Move ns nodes j (getD m j 0) (getD m' j 0) (cellLit l' j)
   pub far : (k i : ℕ) → b ≤ k → k < nodes → Inner (nodeAt ns k) → i < nodeAt ns k .count → getD m' (nodeAt ns k .first + i) 0 ≡ getD m (nodeAt ns k .first + i) 0
@@ -152,22 +153,23 @@ again h p (by-sum k i c e q s) = by-sum k i c e q s
 
 ran-refl : (ns : List ℕ) (nodes b : ℕ) (l : List ℤ) (m : List ℕ) (n : ℕ) → Ran ns nodes b l m n l m n
 ran-refl ns nodes b l m n =
-    record { taken = taken-refl l n; size = refl; mark = λ j. same refl; far = λ k i h g q o. refl; if-kept = λ j h. h; only-kept = λ j h. h }
+    record { order = order-refl l n; lit-far = λ k i h g q o. refl; size = refl; mark = λ j. same refl; far = λ k i h g q o. refl; if-kept = λ j h. h; only-kept = λ j h. h }
 
-ran-trans : {ns : List ℕ} {nodes b : ℕ} {l l' l'' : List ℤ} {m m' m'' : List ℕ} {n n' n'' : ℕ} → 1 ≤ n
+ran-trans : {ns : List ℕ} {nodes b : ℕ} {l l' l'' : List ℤ} {m m' m'' : List ℕ} {n n' n'' : ℕ}
     → Ran ns nodes b l m n l' m' n' → Ran ns nodes b l' m' n' l'' m'' n'' → Ran ns nodes b l m n l'' m'' n''
-ran-trans some p q =
+ran-trans p q =
     record {
-      taken = taken-trans some (p .taken) (q .taken);
+      order = order-trans (p .order) (q .order);
+      lit-far = λ k i h g o r. q .lit-far k i h g o r ∙ p .lit-far k i h g o r;
       size = q .size ∙ p .size;
-      mark = λ j. again (taken-held (q .taken) j) (p .mark j) (q .mark j);
+      mark = λ j. again (order-held (q .order) j) (p .mark j) (q .mark j);
       far = λ k i h g o r. q .far k i h g o r ∙ p .far k i h g o r;
       if-kept = λ j h. q .if-kept j (p .if-kept j h);
       only-kept = λ j h. q .only-kept j (p .only-kept j h);
     }
 
 ran-up : {ns : List ℕ} {nodes b d : ℕ} {l l' : List ℤ} {m m' : List ℕ} {n n' : ℕ} → b ≤ d → Ran ns nodes b l m n l' m' n' → Ran ns nodes d l m n l' m' n'
-ran-up h p = record { taken = p .taken; size = p .size; mark = p .mark; far = λ k i g o r q. p .far k i (omega arith) o r q; if-kept = p .if-kept; only-kept = p .only-kept }
+ran-up h p = record { order = p .order; lit-far = λ k i g o r q. p .lit-far k i (omega arith) o r q; size = p .size; mark = p .mark; far = λ k i g o r q. p .far k i (omega arith) o r q; if-kept = p .if-kept; only-kept = p .only-kept }
 
 -- what a run may start from: nc cells, and a variable that is no 0
 pub record Good {S : Type 0} (nc : ℕ) (s : St S) : Type 0 where
@@ -179,11 +181,11 @@ abbrev pub RanFrom : {S : Type 0} → List ℕ → ℕ → ℕ → ℕ → St S 
 RanFrom ns nodes nc b s t = Good nc s → Ran ns nodes b (s .lits) (s .marks) (s .next) (t .lits) (t .marks) (t .next)
 
 pub good-kept : {S : Type 0} (ns : List ℕ) (nodes nc b : ℕ) (s t : St S) → Good nc s → Ran ns nodes b (s .lits) (s .marks) (s .next) (t .lits) (t .marks) (t .next) → Good nc t
-good-kept ns nodes nc b s t g r = record { some = omega (arith, g .some, r .taken .up); lit-row = omega (arith, g .lit-row, r .taken .size); mark-row = omega (arith, g .mark-row, r .size) }
+good-kept ns nodes nc b s t g r = record { some = omega (arith, g .some, order-up (r .order)); lit-row = omega (arith, g .lit-row, order-size (r .order)); mark-row = omega (arith, g .mark-row, r .size) }
 
 pub good-taken : {S : Type 0} (put : S → Clause → S) (nc at : ℕ) (s : St S) → Good nc s → Good nc (takeAt put at s)
 unfolding takeAt
-good-taken put nc at s g = let one = taken-one (s .lits) at (s .next) (g .some) in record { some = omega (arith, g .some, one .up); lit-row = omega (arith, g .lit-row, one .size); mark-row = g .mark-row }
+good-taken put nc at s g = let one = order-one (s .lits) at (s .next) in record { some = omega (arith, g .some, order-up one); lit-row = omega (arith, g .lit-row, order-size one); mark-row = g .mark-row }
 
 -- ---- the steps
 
@@ -194,7 +196,9 @@ module _ (ns : List ℕ) (nodes nc : ℕ) (lay : Laid ns nodes nc) where
 
   -- a cell of node k is set: to its literal l', to the mark v
   set-cell : (k i v : ℕ) (l : List ℤ) (m : List ℕ) (n : ℕ) (l' : List ℤ) (m' : List ℕ) (n' : ℕ) → k < nodes → Inner (nodeAt ns k) → i < nodeAt ns k .count
-      → nc ≤ length m → Taken l n l' n' → length m' ≡ length m
+      → nc ≤ length m → InOrder l n l' n'
+      → ((b e : ℕ) → k < b → b < nodes → Inner (nodeAt ns b) → e < nodeAt ns b .count → cellLit l' (nodeAt ns b .first + e) ≡ cellLit l (nodeAt ns b .first + e))
+      → length m' ≡ length m
       → ((j : ℕ) → (j ≡ nodeAt ns k .first + i → ⊥) → Move ns nodes j (getD m j 0) (getD m' j 0) (cellLit l' j))
       → Move ns nodes (nodeAt ns k .first + i) (getD m (nodeAt ns k .first + i) 0) v (cellLit l' (nodeAt ns k .first + i))
       → ((b e : ℕ) → k ≤ b → b < nodes → Inner (nodeAt ns b) → e < nodeAt ns b .count → getD m' (nodeAt ns b .first + e) 0 ≡ getD m (nodeAt ns b .first + e) 0)
@@ -203,9 +207,10 @@ module _ (ns : List ℕ) (nodes nc : ℕ) (lay : Laid ns nodes nc) where
       → (hasIf (markOf (getD m (nodeAt ns k .first + i) 0)) ≡ true → hasIf (markOf v) ≡ true)
       → (hasOnly (markOf (getD m (nodeAt ns k .first + i) 0)) ≡ true → hasOnly (markOf v) ≡ true)
       → Ran ns nodes (k + 1) l m n l' (set m' (nodeAt ns k .first + i) v) n'
-  set-cell k i v l m n l' m' n' h q o row t size moves move far fi fo ni no' =
+  set-cell k i v l m n l' m' n' h q o row t lits size moves move far fi fo ni no' =
       record {
-        taken = t;
+        order = t;
+        lit-far = λ b e g r p z. lits b e (omega arith) r p z;
         size = length-set m' at v ∙ size;
         mark = λ j. marks j (ℕ-discrete j at);
         far = λ b e g r p z. getD-set-other m' at (nodeAt ns b .first + e) v 0 (λ x. other k i b e (omega arith) h q o r p x) ∙ far b e (omega arith) r p z;
@@ -244,10 +249,11 @@ module _ (ns : List ℕ) (nodes nc : ℕ) (lay : Laid ns nodes nc) where
         let m = getD (s .marks) at 0 in
         let h = good-kept ns nodes nc k s t g r in
         let room : at < length (t .lits) = omega (arith, lay .within k (c .below) (inl (c .is)), c .out, h .lit-row) in
-        let one = taken-one (t .lits) at (t .next) (h .some) in
+        let one = order-one (t .lits) at (t .next) in
         set-cell k i (missingOf m w .mark) (s .lits) (s .marks) (s .next) (takenLits (t .lits) at (t .next)) (t .marks) (takenNext (t .lits) at (t .next)) (c .below) (inl (c .is)) (c .out)
-        (g .mark-row) (taken-trans (g .some) (r .taken) one) (r .size)
-        (λ j e. later (taken-held one j) (r .mark j))
+        (g .mark-row) (order-trans (r .order) one)
+        (λ b e z x y q. take-else (t .lits) at (t .next) (nodeAt ns b .first + e) (other k i b e z (c .below) (inl (c .is)) (c .out) x y) ∙ r .lit-far b e (omega arith) x y q) (r .size)
+        (λ j e. later (order-held one j) (r .mark j))
         (by-unit k i c refl (todo-high m w) (take-held (t .lits) at (t .next) (h .some) room))
         (λ b e z x y q. r .far b e z x y q) (r .if-kept) (r .only-kept) (todo-if m w) (todo-only m w)
 
@@ -256,20 +262,21 @@ module _ (ns : List ℕ) (nodes nc : ℕ) (lay : Laid ns nodes nc) where
     unfolding takeAt markAt
     sum-ran k i c s t z p g =
         let at = nodeAt ns k .first + i in
-        let one = taken-one (s .lits) at (s .next) (g .some) in
+        let one = order-one (s .lits) at (s .next) in
         let r = p (good-taken put nc at s g) in
         let room : at < length (s .lits) = omega (arith, lay .within k (c .below) (inr (c .is)), c .out, g .lit-row) in
         set-cell k i 1 (s .lits) (s .marks) (s .next) (t .lits) (t .marks) (t .next) (c .below) (inr (c .is)) (c .out)
-        (g .mark-row) (taken-trans (g .some) one (r .taken)) (r .size)
+        (g .mark-row) (order-trans one (r .order))
+        (λ b e z x y q. r .lit-far b e (omega arith) x y q ∙ take-else (s .lits) at (s .next) (nodeAt ns b .first + e) (other k i b e z (c .below) (inr (c .is)) (c .out) x y)) (r .size)
         (λ j e. r .mark j)
-        (by-sum k i c refl refl (taken-held (r .taken) at (take-held (s .lits) at (s .next) (g .some) room)))
+        (by-sum k i c refl refl (order-held (r .order) at (take-held (s .lits) at (s .next) (g .some) room)))
         (λ b e h x y q. r .far b e h x y q) (r .if-kept) (r .only-kept) (λ h. none-if (getD (s .marks) at 0) z h) (λ h. none-only (getD (s .marks) at 0) z h)
 
     from-refl : (b : ℕ) (s : St S) → RanFrom ns nodes nc b s s
     from-refl b s g = ran-refl ns nodes b (s .lits) (s .marks) (s .next)
 
     from-trans : (b : ℕ) (s t u : St S) → RanFrom ns nodes nc b s t → RanFrom ns nodes nc b t u → RanFrom ns nodes nc b s u
-    from-trans b s t u p q g = ran-trans (g .some) (p g) (q (good-kept ns nodes nc b s t g (p g)))
+    from-trans b s t u p q g = ran-trans (p g) (q (good-kept ns nodes nc b s t g (p g)))
 
     from-up : (b d : ℕ) (s t : St S) → b ≤ d → RanFrom ns nodes nc b s t → RanFrom ns nodes nc d s t
     from-up b d s t h p g = ran-up h (p g)
@@ -295,10 +302,10 @@ module _ (ns : List ℕ) (nodes nc : ℕ) (lay : Laid ns nodes nc) where
 
 -- ---- so the cells pass afterwards
 
-pub ran-cell : {ns : List ℕ} {nodes b : ℕ} {l l' : List ℤ} {m m' : List ℕ} {n n' : ℕ} (f : ℕ) → f ≤ n → Ran ns nodes b l m n l' m' n'
+pub ran-cell : {ns : List ℕ} {nodes b : ℕ} {l l' : List ℤ} {m m' : List ℕ} {n n' : ℕ} (f : ℕ) → 1 ≤ f → f ≤ n → Ran ns nodes b l m n l' m' n'
     → (j : ℕ) → CellFacts (cellLit l j) (getD m j 0) f n → CellFacts (cellLit l' j) (getD m' j 0) f n'
-ran-cell {ns} {nodes} {l = l} {l' = l'} {m = m} {m' = m'} f low r j c =
-    record { mark-high = high (r .mark j); mark-held = λ e. held (r .mark j) e; lit = held-taken f low (r .taken) j (c .lit) (some-or (cellLit l j)) }
+ran-cell {ns} {nodes} {l = l} {l' = l'} {m = m} {m' = m'} f some low r j c =
+    record { mark-high = high (r .mark j); mark-held = λ e. held (r .mark j) e; lit = held-taken f low (order-taken (omega arith) (r .order)) j (c .lit) (some-or (cellLit l j)) }
   where
     high : Move ns nodes j (getD m j 0) (getD m' j 0) (cellLit l' j) → getD m' j 0 ≤ 3
     high (same e) = omega (arith, c .mark-high)
@@ -307,7 +314,7 @@ ran-cell {ns} {nodes} {l = l} {l' = l'} {m = m} {m' = m'} f low r j c =
 
     held : Move ns nodes j (getD m j 0) (getD m' j 0) (cellLit l' j) → cellLit l' j ≡ pos 0 → getD m' j 0 ≡ 0
     held (same e) z =
-        e ∙ ⊎-elim (λ (some : isZero (cellLit l j) ≡ false). not-zero (cellLit l' j) z (taken-held (r .taken) j some)) (λ (none : cellLit l j ≡ pos 0). c .mark-held none) (some-or (cellLit l j))
+        e ∙ ⊎-elim (λ (some : isZero (cellLit l j) ≡ false). not-zero (cellLit l' j) z (order-held (r .order) j some)) (λ (none : cellLit l j ≡ pos 0). c .mark-held none) (some-or (cellLit l j))
     held (by-unit k i p e q s) z = not-zero (cellLit l' j) z s
     held (by-sum k i p e q s) z = not-zero (cellLit l' j) z s
 

@@ -4,7 +4,7 @@ use Prim.Native.Nat.{ℕ, zero, suc, _+_, _-_, _<_, _≤_}
 use mathlib.Core.List.{List, _++_, append-assoc}
 use mathlib.Core.Bool.{Bool, true, false, cond, not, _&&_, _||_}
 use mathlib.Core.Path.{_≡_, refl, sym, ap, subst, _∙_}
-use mathlib.Core.Logic.{_⊎_, inl, inr, ⊎-elim}
+use mathlib.Core.Logic.{inl, inr, ⊎-elim}
 use native.Mathlib.Omega.{arith}
 use native.Mathlib.Nat.{add-zero}
 use native.Mathlib.Numerals.{add-one}
@@ -33,9 +33,9 @@ use Rattle.paper.specs.declared.Job.the-variants.{Nothing, Count, Sum}
 use Rattle.paper.specs.declared.Counters.{Counters}
 use Rattle.paper.specs.declared.Demanded.{Demanded}
 use Rattle.paper.specs.declared.Demanded.the-variants.{Given, NotGiven}
-use Rattle.facts.specs.Facts.{Held, NodeFactsAt, a-leaf, a-dummy, a-unit, a-general, TableFacts, table-facts, leaf-low, node-under, dummy-outputs, unit-outputs, general-outputs, leaf-outputs, node-used, used-at}
+use Rattle.facts.specs.Facts.{NodeFactsAt, a-leaf, a-dummy, a-unit, a-general, TableFacts, table-facts, leaf-low, node-under, dummy-outputs, unit-outputs, general-outputs, leaf-outputs, node-used, used-at}
 use Rattle.facts.specs.Carry.{moved}
-use Rattle.facts.specs.Taken.{cellLit, not-zero, zero-or, Taken, taken-held, take-held}
+use Rattle.facts.specs.Taken.{cellLit, zero-or, var-some, take-none, take-held, InOrder, order-size, order-keep, order-held, order-behind}
 use Rattle.facts.specs.Rel.{CellOf, Stepped, idle, finished, Summed, marked, summed, unit-place, output-place}
 use Rattle.facts.specs.Ran.{Laid, Inner, same, Ran, Good, RanFrom, good-kept, good-taken, define-step, sum-step, asked-if, asked-only}
 use Rattle.facts.specs.Demands.{used, used-laid, used-good, count-ran, sum-ran, count-done, sum-done, roomy}
@@ -51,45 +51,17 @@ back-high new old n j d e h =
     let p : n + (j - n) ≡ j = omega arith in
     ap (λ (k : ℕ). getD (new ++ drop n old) k d) q ∙ getD-append-add new (drop n old) (j - n) d ∙ getD-drop n old (j - n) d ∙ ap (λ (k : ℕ). getD old k d) p
 
-pub taken-back : (l p : List ℤ) (n n' cells : ℕ) → cells ≤ length l → Taken (take cells l) n p n' → Taken l n (p ++ drop cells l) n'
-taken-back l p n n' cells row t =
-    record {
-      size = length-front l p cells (t .size);
-      up = t .up;
-      keep = λ j s. ⊎-elim (λ (h : j < cells). lo j h ∙ t .keep j (ap isZero (was j h) ∙ s) ∙ was j h) (λ (h : cells ≤ j). hi j h) (side j cells);
-      new = λ j z. ⊎-elim (λ (h : j < cells). new j h (t .new j (was j h ∙ z))) (λ (h : cells ≤ j). inl (hi j h ∙ z)) (side j cells);
-      all = λ v a b. let w = t .all v a b in let h : w .0 < cells = omega (arith, w .1, len) in (w .0, omega arith, sym (was (w .0) h) ∙ w .2, lo (w .0) h ∙ w .3);
-      once = λ i j zi zj s e. ⊎-elim
-          (λ (h : i < cells). ⊎-elim
-          (λ (g : j < cells). t .once i j (was i h ∙ zi) (was j g ∙ zj) (ap isZero (sym (lo i h)) ∙ s) (sym (lo i h) ∙ e ∙ lo j g))
-          (λ (g : cells ≤ j). not-zero (cellLit (p ++ drop cells l) i) (e ∙ hi j g ∙ zj) s) (side j cells))
-          (λ (h : cells ≤ i). not-zero (cellLit (p ++ drop cells l) i) (hi i h ∙ zi) s) (side i cells);
-    }
-  where
-    len : length (take cells l) ≡ cells
-    len = length-take-le cells l row
-
-    size : length p ≡ cells
-    size = t .size ∙ len
-
-    lo : (j : ℕ) → j < cells → cellLit (p ++ drop cells l) j ≡ cellLit p j
-    lo j h = back-low p l cells j (pos 0) size h
-
-    hi : (j : ℕ) → cells ≤ j → cellLit (p ++ drop cells l) j ≡ cellLit l j
-    hi j h = back-high p l cells j (pos 0) size h
-
-    was : (j : ℕ) → j < cells → cellLit (take cells l) j ≡ cellLit l j
-    was j h = getD-take cells l j (pos 0) h
-
-    new : (j : ℕ) → j < cells → (cellLit p j ≡ pos 0) ⊎ Held (cellLit p j) n n' → (cellLit (p ++ drop cells l) j ≡ pos 0) ⊎ Held (cellLit (p ++ drop cells l) j) n n'
-    new j h (inl e) = inl (lo j h ∙ e)
-    new j h (inr v) = inr (record { var = v .var; is = lo j h ∙ v .is; from = v .from; below = v .below })
+-- literals taken in the part in use, seen in the whole row
+pub order-back : (l p : List ℤ) (n n' cells : ℕ) → InOrder (take cells l) n p n' → InOrder l n (p ++ drop cells l) n'
+order-back l p n n' cells o = subst (λ (x : List ℤ). InOrder x n (p ++ drop cells l) n') (take-append-drop cells l) (order-behind (drop cells l) o)
 
 pub ran-back : (ns : List ℕ) (nodes b : ℕ) (l p : List ℤ) (m q : List ℕ) (n n' cells : ℕ) → cells ≤ length l → cells ≤ length m → Laid ns nodes cells
     → Ran ns nodes b (take cells l) (take cells m) n p q n' → Ran ns nodes b l m n (p ++ drop cells l) (q ++ drop cells m) n'
 ran-back ns nodes b l p m q n n' cells rl rm lay r =
     record {
-      taken = taken-back l p n n' cells rl (r .taken);
+      order = order-back l p n n' cells (r .order);
+      lit-far = λ k i h g o z. let w = lay .within k g o in
+          back-low p l cells (nodeAt ns k .first + i) (pos 0) sizel (omega arith) ∙ r .lit-far k i h g o z ∙ getD-take cells l (nodeAt ns k .first + i) (pos 0) (omega arith);
       size = length-front m q cells (r .size);
       mark = λ j. ⊎-elim
           (λ (h : j < cells). rw (lo j h, back-low p l cells j (pos 0) sizel h, ← was j h) (r .mark j))
@@ -104,7 +76,7 @@ ran-back ns nodes b l p m q n n' cells rl rm lay r =
     }
   where
     sizel : length p ≡ cells
-    sizel = r .taken .size ∙ length-take-le cells l rl
+    sizel = order-size (r .order) ∙ length-take-le cells l rl
 
     size : length q ≡ cells
     size = r .size ∙ length-take-le cells m rm
@@ -229,6 +201,24 @@ module _ {S : Type 0} (put : S → Clause → S) (ns : List ℕ) (ins : List ℤ
           ap (λ (u : St S). isZero (cellLit (u .lits) at)) e
           ∙ take-held (t .lits) at (t .next) (g .some) (omega (arith, lay .within k (c .below) (inl (c .is)), c .out, g .lit-row))
 
+  -- a unit's output takes its literal after its children: where it had none, it has the last one that the run takes
+  pub unit-last : (f k i : ℕ) (w : Want) → CellOf 1 ns nodes k i → (w .fi || w .fo) ≡ true
+      → cellLit (s .lits) (nodeAt ns k .first + i) ≡ pos 0 → getD (s .marks) (nodeAt ns k .first + i) 0 ≡ 0
+      → (v : ℕ) × (cellLit (define put (suc f) ns ins k i w s .lits) (nodeAt ns k .first + i) ≡ pos v) × (define put (suc f) ns ins k i w s .next ≡ v + 1)
+  unfolding finishOf
+  unit-last f k i w c asks none bare = go (define-step ns nodes nc lay put ins f k i w s c)
+    where
+      at : ℕ
+      at = nodeAt ns k .first + i
+
+      go : Stepped put ns ins (RanFrom ns nodes nc) k i w s (define put (suc f) ns ins k i w s)
+          → (v : ℕ) × (cellLit (define put (suc f) ns ins k i w s .lits) at ≡ pos v) × (define put (suc f) ns ins k i w s .next ≡ v + 1)
+      go (idle a b e) = absurd (unmet (getD (s .marks) at 0) w bare asks (all-there (getD (s .marks) at 0) w a b))
+      go (finished t r e) =
+          let g = good-kept ns nodes nc k s t good (r good) in
+          let q = take-none (t .lits) at (t .next) (omega (arith, lay .within k (c .below) (inl (c .is)), c .out, g .lit-row)) (r good .lit-far k i (omega arith) (c .below) (inl (c .is)) (c .out) ∙ none) in
+          (t .next, ap (λ (u : St S). cellLit (u .lits) at) e ∙ q .0, ap (λ (u : St S). u .next) e ∙ q .1)
+
   pub unit-met : (f k i : ℕ) (w : Want) → CellOf 1 ns nodes k i → Met (getD (define put (suc f) ns ins k i w s .marks) (nodeAt ns k .first + i) 0) w
   unfolding finishOf
   unit-met f k i w c = go (define-step ns nodes nc lay put ins f k i w s c)
@@ -261,7 +251,23 @@ module _ {S : Type 0} (put : S → Clause → S) (ns : List ℕ) (ins : List ℤ
       go (summed t z r e) =
           let room : at < length (s .lits) = omega (arith, lay .within k (c .below) (inr (c .is)), c .out, good .lit-row) in
           let one = take-held (s .lits) at (s .next) (good .some) room in
-          ap (λ (u : St S). isZero (cellLit (u .lits) at)) e ∙ taken-held (r (good-taken put nc at s good) .taken) at one
+          ap (λ (u : St S). isZero (cellLit (u .lits) at)) e ∙ order-held (r (good-taken put nc at s good) .order) at one
+
+  -- a general node's output takes its literal before its children: where it had none, it has the first one that the run takes
+  pub sum-first : (keys : List ℕ) (f k y : ℕ) → 1 ≤ y → CellOf 2 ns nodes k (y - 1)
+      → cellLit (s .lits) (nodeAt ns k .first + (y - 1)) ≡ pos 0 → getD (s .marks) (nodeAt ns k .first + (y - 1)) 0 ≡ 0
+      → cellLit (weigh put (suc f) ns ins keys k y s .lits) (nodeAt ns k .first + (y - 1)) ≡ pos (s .next)
+  unfolding takeAt markAt
+  sum-first keys f k y some c none bare = go (sum-step ns nodes nc lay put ins keys f k y s some c)
+    where
+      at : ℕ
+      at = nodeAt ns k .first + (y - 1)
+
+      go : Summed put ns (RanFrom ns nodes nc) k (y - 1) s (weigh put (suc f) ns ins keys k y s) → cellLit (weigh put (suc f) ns ins keys k y s .lits) at ≡ pos (s .next)
+      go (marked ne e) = absurd (ne bare)
+      go (summed t z r e) =
+          let q = take-none (s .lits) at (s .next) (omega (arith, lay .within k (c .below) (inr (c .is)), c .out, good .lit-row)) none .0 in
+          ap (λ (u : St S). cellLit (u .lits) at) e ∙ order-keep (r (good-taken put nc at s good) .order) at (ap isZero q ∙ var-some (s .next) (good .some)) ∙ q
 
   -- .. so a demand at a place of an inner node ends with a literal there
   pub place-lit : (keys : List ℕ) (f k y : ℕ) → k < nodes → 1 ≤ y → y ≤ nodeAt ns k .count → Inner (nodeAt ns k)
@@ -354,6 +360,32 @@ module _ (nodes : List ℕ) (inputs : List ℤ) (keys : List ℕ) (lits : List �
           let e = unit-outputs (nodeAt ns id) k in
           ap isZero (con-lit ns ins l id i (ne-eqb (nodeAt ns id .kind) 0 (λ q. omega arith)) o)
           ∙ unit-lit grow ns ins (c .nodes) (c .cells) lay begin good id id i w (record { below = h; is = k; out = omega arith }) asks (held (nodeAt ns id .first + i) (omega (arith, f .within)))
+
+  -- the new literal of the output itself: a unit's is the last one taken, a general node's the first
+  pub count-last : (id i : ℕ) (w : Want) → id < c .nodes → nodeAt ns id .kind ≡ 1 → i < conLen (nodeAt ns id) → (w .fi || w .fo) ≡ true
+      → cellLit (cellsUsed lits c) (nodeAt ns id .first + i) ≡ pos 0
+      → (v : ℕ) × (litAt (conLits ns ins (countRun nodes inputs lits marks c id i w .lits) id) i ≡ pos v) × (countRun nodes inputs lits marks c id i w .next ≡ v + 1)
+  unfolding plainRun
+  count-last id i w h k o asks none =
+      rw (add-one id)
+      (let cell : CellOf 1 ns (c .nodes) id i = record { below = h; is = k; out = omega (arith, unit-outputs (nodeAt ns id) k) } in
+      let low : nodeAt ns id .first + i < c .cells = omega (arith, lay .within id h (inl k), cell .out) in
+      let q = unit-last grow ns ins (c .nodes) (c .cells) lay begin good id id i w cell asks none (held (nodeAt ns id .first + i) low none) in
+      (q .0, con-lit ns ins (define grow (suc id) ns ins id i w begin .lits) id i (ne-eqb (nodeAt ns id .kind) 0 (λ e. omega arith)) o ∙ q .1, q .2))
+
+  pub place-first : (id j : ℕ) → id < c .nodes → nodeAt ns id .kind ≡ 2 → j < conLen (nodeAt ns id) → cellLit (cellsUsed lits c) (nodeAt ns id .first + j) ≡ pos 0
+      → litAt (conLits ns ins (weighRun ns ins (cellsUsed keys c) (cellsUsed lits c) (cellsUsed marks c) (c .next) id (j + 1) .lits) id) j ≡ pos (c .next)
+  unfolding weighRun
+  place-first id j h k o none =
+      rw (add-one id)
+      (let e : j + 1 - 1 ≡ j = omega arith in
+      let l = weigh grow (suc id) ns ins (cellsUsed keys c) id (j + 1) begin .lits in
+      let cell : CellOf 2 ns (c .nodes) id (j + 1 - 1) = record { below = h; is = k; out = omega (arith, general-outputs (nodeAt ns id) k) } in
+      let low : nodeAt ns id .first + (j + 1 - 1) < c .cells = omega (arith, lay .within id h (inr k), cell .out) in
+      let bare : cellLit (cellsUsed lits c) (nodeAt ns id .first + (j + 1 - 1)) ≡ pos 0 = ap (λ (x : ℕ). cellLit (cellsUsed lits c) (nodeAt ns id .first + x)) e ∙ none in
+      con-lit ns ins l id j (ne-eqb (nodeAt ns id .kind) 0 (λ e. omega arith)) o
+      ∙ ap (λ (x : ℕ). cellLit l (nodeAt ns id .first + x)) (sym e)
+      ∙ sum-first grow ns ins (c .nodes) (c .cells) lay begin good (cellsUsed keys c) id id (j + 1) (omega arith) cell bare (held (nodeAt ns id .first + (j + 1 - 1)) low bare))
 
   pub place-some : (id j : ℕ) → id < c .nodes → j < conLen (nodeAt ns id)
       → isZero (litAt (conLits ns ins (weighRun ns ins (cellsUsed keys c) (cellsUsed lits c) (cellsUsed marks c) (c .next) id (j + 1) .lits) id) j) ≡ false

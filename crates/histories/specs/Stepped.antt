@@ -27,7 +27,7 @@ use Rattle.paper.specs.declared.Demanded.the-variants.{Given, NotGiven}
 use Rattle.paper.specs.declared.Kept.{Kept}
 use Rattle.paper.specs.declared.Kept.the-variants.{Did, DidNot}
 use Rattle.facts.specs.Pastes.{paste-at}
-use Rattle.facts.specs.Taken.{Taken, all-taken}
+use Rattle.facts.specs.Taken.{InOrder, give-order}
 use Rattle.facts.specs.Demands.{count-ran, sum-ran}
 use Rattle.meaning.specs.Table.{History, Inv}
 use Rattle.meaning.specs.Steps.{inv-reset}
@@ -173,8 +173,8 @@ module _ (d : Db) (h : History) (u : Upheld d h) where
       is : ensureAll ps σ ≡ from (s .lits) (d .marks) (s .next) h
       is = λ j. record { lits = sym (give-is ps σ) j .lits; marks = all-rest ps σ .0 j; next = sym (give-is ps σ) j .next; out = all-rest ps σ .1 j }
 
-      taken : Taken (d .lits) (c .next) (s .lits) (s .next)
-      taken = let f = facts-of d (u .passes) .counters in all-taken ps (stock (d .lits) (c .next)) (omega (arith, f .first-low, f .next-low))
+      order : InOrder (d .lits) (c .next) (s .lits) (s .next)
+      order = give-order ps (stock (d .lits) (c .next))
 
       stays : Stays d (reservedDb (Did (withNext c (s .next))) (s .lits)) false
       stays =
@@ -185,7 +185,7 @@ module _ (d : Db) (h : History) (u : Upheld d h) where
             node-is = λ n l. refl;
             inputs = λ a l. refl;
             keys = λ a l. refl;
-            lits = λ a l f. kept-lit taken a f;
+            lits = λ a l f. kept-lit order a f;
             ifs = λ e a l m. m;
             onlys = λ e a l m. m;
           }
