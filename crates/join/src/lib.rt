@@ -16,8 +16,9 @@ ghost use lib.ListN.{length, replicate};
 ghost use lib.IntN.{pos};
 ghost use lib.Seq.{paste};
 ghost use Rattle.paper.specs.Limits.{cellLimit, mulLimit};
-ghost use Rattle.paper.specs.Rows.{conLen};
+ghost use Rattle.paper.specs.Rows.{conLen, valueAt};
 ghost use Rattle.paper.specs.Join.{countUp, roomFor, mulsOk, fitPlan, unitPlan, generalPlan, innerPlan, innerAdded, innerNodes, innerKeys, innerLits, innerMarks, newKeys};
+ghost use Rattle.keys.specs.Least.{Mono};
 ghost use Rattle.join.specs.Ready.{RowReady};
 
 pub fn room(c: Counters, count: usize, s: Sizes) -> bool
@@ -72,19 +73,22 @@ fn unit_plan(j: Pair, l: Node, r: Node, c: Counters, s: Sizes) -> Planned
     fit_plan(1, j, l, r, c, count, s)
 }
 
-// 8, 9, then the fit. A count of more cells than are left is told by one more than those.
+// 8 from the two counts, 9 from the two largest values, then the fit. A count of more cells than are left is told by one more
+// than those.
 fn general_plan(keys: &[u32], j: Pair, l: Node, r: Node, c: Counters, s: Sizes) -> Planned
     requires { ⌜ (j .lmul ≤ mulLimit) × (j .rmul ≤ mulLimit) × (c .cells ≤ cellLimit) ⌝ }
+    requires { ⌜ (Mono (conLen l) (λ k. valueAt (now keys) l k)) × (Mono (conLen r) (λ k. valueAt (now keys) r k)) ⌝ }
     ensures { λ x. ⌜ x ≡ generalPlan (now (keys .entry)) j l r c s ⌝ }
 {
     let lm = j.lmul;
     let rm = j.rmul;
-    let least = keys::first_key(keys, l, lm, r, rm, 0);
-    if least == keys::NONE {
+    let nl = rows::con_len(l);
+    let nr = rows::con_len(r);
+    if (nl == 0) & (nr == 0) {
         return Planned::Reject(Refusal::NoValue);
     }
-    let above = keys::first_key(keys, l, lm, r, rm, KEY_LIMIT + 1);
-    if above != keys::NONE {
+    let most = keys::largest(keys, l, lm) + keys::largest(keys, r, rm);
+    if KEY_LIMIT < most {
         return Planned::Reject(Refusal::KeyTooLarge);
     }
     let top = CELL_LIMIT - c.cells + 1;

@@ -4,7 +4,7 @@ use Prim.Native.Nat.{ℕ, zero, suc, _+_, _*_, _<_, _≤_, _^_, _-_}
 use mathlib.Core.List.{List, [], _∷_, _++_}
 use mathlib.Core.Bool.{Bool, true, false, cond, _&&_, and-false, and-true}
 use mathlib.Core.Path.{_≡_, refl, sym, ap, ap₂, _∙_, fun-ext, subst}
-use mathlib.Core.Logic.{_⊎_, inl, inr, ⊎-elim}
+use mathlib.Core.Logic.{⊎-elim}
 use native.Mathlib.Numerals.{add-one}
 use native.Mathlib.Nat.{mul-le-mul, mul-le-mul-left, zero-add}
 use native.Mathlib.Omega.{arith}
@@ -12,12 +12,12 @@ use lib.ListN.{length, getD, take, drop, length-append, List·getD-append}
 use lib.Seq.{paste, length-take-le, getD-take}
 use lib.Dec.{eqb, leb, ltb}
 use borrow.Author.Tests.{lt-ltb, le-ltb, le-leb, lt-leb, eq-eqb, ne-eqb, ltb-true, ltb-false}
-use Rattle.paper.specs.Below.{allBelow, all-cong, all-fails, all-made, side}
+use Rattle.paper.specs.Below.{allBelow, all-cong, all-fails, side}
 use Rattle.paper.specs.Rows.{wordFrom, conLen, conVal, valueAt}
 use Rattle.paper.specs.Limits.{mulLimit, keyLimit}
 use Rattle.paper.specs.declared.Node.{Node}
 use Rattle.paper.specs.Keys.{nodeKeys, put, putAll, keysOf}
-use Rattle.keys.specs.Least.{Under, Mono, pickedAt, none, pickOf, leastAll, leastSum, firstFrom, startAt, Cut}
+use Rattle.keys.specs.Least.{Under, Mono, lastOf, pickedAt, none, pickOf, leastAll, leastSum, firstFrom, startAt, Cut}
 
 -- ascending, from lo up to below hi
 abbrev pub Between : ℕ → ℕ → List ℕ → Type 0
@@ -277,32 +277,6 @@ paste-below d at s n k h l =
     ∙ List·getD-append (take at d) (take n s) 0 k (omega arith)
     ∙ getD-take at d k 0 l
 
--- a key at least a, or none
-pub first-where : (a : ℕ) (s : List ℕ) → (firstFrom a s ≡ none) ⊎ ((i : ℕ) × (i < length s) × (a ≤ getD s i 0))
-unfolding firstFrom
-first-where a [] = inl refl
-first-where a (x ∷ xs) =
-    ⊎-elim (λ (l : x < a). ⊎-elim (λ e. inl (from-miss a x xs l ∙ e)) (λ w. inr (suc (w .0), omega (arith, w .1), w .2)) (first-where a xs))
-    (λ (g : a ≤ x). inr (0, omega arith, g))
-    (side x a)
-
--- none at least a: every key is below a
-pub none-above : (a lo : ℕ) (s : List ℕ) → Between lo none s → firstFrom a s ≡ none → (i : ℕ) → i < length s → getD s i 0 < a
-none-above a lo [] b e i l = absurd (omega arith)
-none-above a lo (x ∷ xs) b e zero l =
-    ⊎-elim (λ (k : x < a). k) (λ (g : a ≤ x). absurd (let q : x ≡ none = sym (from-hit a x xs g) ∙ e in omega (arith, b .1))) (side x a)
-none-above a lo (x ∷ xs) b e (suc i) l =
-    ⊎-elim (λ (k : x < a). none-above a (suc x) xs (b .2) (sym (from-miss a x xs k) ∙ e) i (omega arith))
-    (λ (g : a ≤ x). absurd (let q : x ≡ none = sym (from-hit a x xs g) ∙ e in omega (arith, b .1))) (side x a)
-
--- the search from past the limit on tells whether every key is within it
-pub limit-kept : (s : List ℕ) → Between 0 none s → firstFrom (keyLimit + 1) s ≡ none → allBelow (length s) (λ i. leb (getD s i 0) keyLimit) ≡ true
-limit-kept s b e = all-made (length s) _ (λ k l. le-leb (getD s k 0) keyLimit (let h : getD s k 0 < (keyLimit + 1) = none-above (keyLimit + 1) 0 s b e k l in omega arith))
-
-pub limit-passed : (s : List ℕ) → (firstFrom (keyLimit + 1) s ≡ none → ⊥) → allBelow (length s) (λ i. leb (getD s i 0) keyLimit) ≡ false
-limit-passed s h =
-    ⊎-elim (λ e. absurd (h e)) (λ w. all-fails (length s) _ (w .0) (w .1) (lt-leb (getD s (w .0) 0) keyLimit (omega (arith, w .2)))) (first-where (keyLimit + 1) s)
-
 -- P5: leaves times 3 and times 2 have the keys 2, 3, 5
 p5 : keysOf 1 (λ _. 3) 1 (λ _. 2) ≡ 2 ∷ 3 ∷ 5 ∷ []
 unfolding keysOf putAll put
@@ -337,6 +311,21 @@ row-least n f a b j l h m g =
 
 pub mono-times : (n : ℕ) (f : ℕ → ℕ) (m : ℕ) → Mono n f → Mono n (λ k. m * f k)
 mono-times n f m h i k l g = mul-le-mul-left m (h i k l g)
+
+-- the last value is there, and no value is above it
+pub last-none : (n : ℕ) (f : ℕ → ℕ) → n ≡ 0 → 0 ≡ lastOf n f
+unfolding lastOf
+last-none n f e = rw e
+
+pub last-some : (n : ℕ) (f : ℕ → ℕ) → (n ≡ 0 → ⊥) → f (n - 1) ≡ lastOf n f
+unfolding lastOf
+last-some zero f h = absurd (h refl)
+last-some (suc n) f h = ap f (let q : suc n - 1 ≡ n = omega arith in q)
+
+pub last-most : (n : ℕ) (f : ℕ → ℕ) → Mono n f → (k : ℕ) → k < n → f k ≤ lastOf n f
+unfolding lastOf
+last-most zero f mono k l = absurd (omega arith)
+last-most (suc n) f mono k l = mono k n (omega arith) (omega arith)
 
 -- one row of the staircase: from j0 on all are at least a, j is where that begins
 module _ (n : ℕ) (r : ℕ → ℕ) (mono : Mono n r) (x a j0 j : ℕ) (j0≤n : j0 ≤ n) (j≤j0 : j ≤ j0)

@@ -5,7 +5,7 @@ use mathlib.Core.Bool.{false, cond, _&&_}
 use mathlib.Core.Path.{_≡_}
 use lib.ListN.{getD}
 use lib.Dec.{leb, ltb}
-use Rattle.paper.specs.Rows.{isLeaf, conLen}
+use Rattle.paper.specs.Rows.{isLeaf, conLen, conVal}
 use Rattle.paper.specs.declared.Node.{Node}
 
 -- the cells of a node, if it is no leaf, lie below a place
@@ -35,6 +35,15 @@ firstFrom a (x ∷ xs) = cond (leb a x) x (firstFrom a xs)
 -- the first n of f do not fall
 abbrev pub Mono : ℕ → (ℕ → ℕ) → Type 0
 Mono n f = (i k : ℕ) → i ≤ k → k < n → f i ≤ f k
+
+-- the last of the first n of f, or 0: where they do not fall, the largest
+unfoldable pub lastOf : ℕ → (ℕ → ℕ) → ℕ
+lastOf zero f = 0
+lastOf (suc n) f = f n
+
+-- .. of a node's values times a multiplier
+abbrev pub largestOf : List ℕ → Node → ℕ → ℕ
+largestOf keys n m = lastOf (conLen n) (conVal keys n m)
 
 -- below j: what is next below lo is low, and from hi on all is at least a
 pub record Cut (f : ℕ → ℕ) (x a j lo hi : ℕ) : Type 0 where

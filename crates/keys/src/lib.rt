@@ -4,16 +4,16 @@ use paper::KEY_LIMIT;
 use paper::Node;
 ghost use mathlib.Core.Path.{_≡_};
 ghost use mathlib.Core.Bool.{true, cond};
-ghost use Prim.Native.Nat.{ℕ, suc, _+_, _*_, _<_, _≤_, _^_, min};
+ghost use Prim.Native.Nat.{ℕ, _+_, _*_, _<_, _≤_, _^_, min};
 ghost use lib.ListN.{length, getD};
 ghost use lib.Seq.{paste};
 ghost use Rattle.paper.specs.Limits.{mulLimit};
 ghost use Rattle.paper.specs.Rows.{conLen, conVal, valueAt};
 ghost use Rattle.paper.specs.Keys.{nodeKeys, rowIs};
-ghost use Rattle.keys.specs.Least.{pickOf, leastAll, firstFrom, Under, Mono, Cut, pickedAt};
+ghost use Rattle.keys.specs.Least.{pickOf, leastAll, firstFrom, Under, Mono, Cut, pickedAt, largestOf};
 
 // Above every sum of two products of a multiplier and a word.
-pub const NONE: usize = 4611686018427387904;
+const NONE: usize = 4611686018427387904;
 
 // x, if it is at least a and below best; else best.
 pub fn pick(a: usize, x: usize, best: usize) -> usize
@@ -128,10 +128,10 @@ fn back(keys: &[u32], r: Node, m: usize, x: usize, a: usize, j: usize) -> usize
     hi
 }
 
-// The largest of a node's values times the multiplier, or 0.
-fn largest(keys: &[u32], r: Node, m: usize) -> usize
-    requires { ⌜ (m ≤ mulLimit) × (Mono (conLen r) (λ k. valueAt (now keys) r k)) ⌝ }
-    ensures { λ x. ⌜ (x < 2 ^ 48) × ((k : ℕ) → k < conLen r → conVal (now (keys .entry)) r m k ≤ x) ⌝ }
+// The last of a node's values times the multiplier, or 0: where they do not fall, the largest.
+pub fn largest(keys: &[u32], r: Node, m: usize) -> usize
+    requires { ⌜ m ≤ mulLimit ⌝ }
+    ensures { λ x. ⌜ (x ≡ largestOf (now (keys .entry)) r m) × (x < 2 ^ 48) ⌝ }
 {
     let n = rows::con_len(r);
     if n == 0 {
@@ -200,14 +200,6 @@ fn next_key(keys: &[u32], l: Node, lm: usize, r: Node, rm: usize, up: bool, a: u
     } else {
         first_key_any(keys, l, lm, r, rm, a)
     }
-}
-
-pub fn first_key(keys: &[u32], l: Node, lm: usize, r: Node, rm: usize, a: usize) -> usize
-    requires { ⌜ (lm ≤ mulLimit) × (rm ≤ mulLimit) ⌝ }
-    ensures { λ x. ⌜ x ≡ firstFrom a (nodeKeys (now (keys .entry)) l lm r rm) ⌝ }
-{
-    let up = rising(keys, l, r);
-    next_key(keys, l, lm, r, rm, up, a)
 }
 
 // The row has exactly the node's keys, each within the limit.

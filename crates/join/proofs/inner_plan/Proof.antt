@@ -8,11 +8,13 @@ use Rattle.paper.specs.Table.{tableOk}
 use Rattle.facts.specs.Facts.{Under, table-facts, node-under, TableFacts}
 use Rattle.paper.specs.Join.{nodesPlan, innerPlan}
 use Rattle.join.proofs.Plans.{or-none, plan-table, plan-missing, mul-facts, value-few, np-muls, np-unit, np-general}
-use Prim.Native.Nat.{_/_, _≤_}
+use Prim.Native.Nat.{ℕ, _/_, _≤_}
 use mathlib.Core.Bool.{Bool, true, false, _||_}
 use Rattle.paper.specs.Limits.{cellLimit, nodeWords}
-use Rattle.paper.specs.Rows.{nodeAt, conLen}
+use Rattle.paper.specs.Rows.{nodeAt, conLen, valueAt}
 use Rattle.paper.specs.declared.Sizes.{Sizes}
+use Rattle.keys.specs.Least.{Mono}
+use Rattle.join.proofs.Largest.{node-mono}
 use Rattle.join.proofs.inner_plan.Statement.{statement}
 use Rattle.join.proofs.inner_plan.Tie as tie
 
@@ -63,6 +65,16 @@ module _ (c : tie.After-muls-ok) where
       value-few R (st .args .c .cells) (facts .counters .cell-limit)
       (subst (λ (n : Node). Under n (st .args .c .cells)) (sym (c .before .before .before .node-at2 .ensures)) (node-under facts (st .args .j .right) (leb-false _ _ (or-none (leb (st .args .c .nodes) (st .args .j .left)) (leb (st .args .c .nodes) (st .args .j .right)) there .1))))
 
+  left-mono : Mono (conLen L) (λ (k : ℕ). valueAt (st .args .keys .now) L k)
+  left-mono =
+      subst (λ (n : Node). Mono (conLen n) (λ (k : ℕ). valueAt (st .args .keys .now) n k)) (sym (c .before .before .before .before .node-at .ensures))
+      (node-mono (facts .node (st .args .j .left) (leb-false _ _ (or-none (leb (st .args .c .nodes) (st .args .j .left)) (leb (st .args .c .nodes) (st .args .j .right)) there .0))))
+
+  right-mono : Mono (conLen R) (λ (k : ℕ). valueAt (st .args .keys .now) R k)
+  right-mono =
+      subst (λ (n : Node). Mono (conLen n) (λ (k : ℕ). valueAt (st .args .keys .now) n k)) (sym (c .before .before .before .node-at2 .ensures))
+      (node-mono (facts .node (st .args .j .right) (leb-false _ _ (or-none (leb (st .args .c .nodes) (st .args .j .left)) (leb (st .args .c .nodes) (st .args .j .right)) there .1))))
+
 table-ok-requires : tie.Need-table-ok-requires
 table-ok-requires c κs = search needs
 
@@ -98,7 +110,7 @@ general-plan-requires : tie.Need-general-plan-requires
 general-plan-requires c κs =
     let m = c .before .before .before in
     let f = mul-facts _ _ (sym (m .muls-ok .ensures) ∙ not-false _ (c .before .before .if3 .left)) in
-    (f .lmul-high, f .rmul-high, facts m .counters .cell-limit)
+    ((f .lmul-high, f .rmul-high, facts m .counters .cell-limit), (left-mono m, right-mono m))
 
 returns-4 : tie.Need-returns-4
 unfolding innerPlan
