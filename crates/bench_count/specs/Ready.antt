@@ -30,9 +30,9 @@ fitAt ns ni nc k = nodeFit (nodeAt ns k) (nodeAt ns (nodeAt ns k .left)) (nodeAt
 abbrev pub nodesFit : List ℕ → ℕ → ℕ → Bool
 nodesFit ns ni nc = allBelow (length ns / nodeWords) (fitAt ns ni nc)
 
--- the run as it begins
-abbrev pub begin : ℕ → Run
-begin next = record { next = next; words = 0 }
+-- a run from its next variable and its next word
+abbrev pub from : ℕ → ℕ → Run
+from next words = record { next = next; words = words }
 
 module _ (n l r : Node) (ni nc k : ℕ) (h : nodeFit n l r ni nc k ≡ true) where
   pub leaf-fit : n .kind ≡ 0 → n .first < ni
@@ -79,15 +79,15 @@ cells-neg lits marks h j l =
     neg-held (getD lits j (pos 0)) 1 (2 ^ 31) (omega arith)
     (cell-facts (getD lits j (pos 0)) (getD marks j 0) 1 (2 ^ 31) (all-at (length lits) test (and-right (leb (length lits) (length marks)) (allBelow (length lits) test) g) j l) .lit)
 
--- the same counters with the words taken back
-pub emptied : (ns : List ℕ) (ins lits : List ℤ) (marks : List ℕ) (u : Run) → Fit ns ins lits marks u → Fit ns ins lits marks (begin (u .next))
-emptied ns ins lits marks u f = record { ok = f .ok; same = f .same; neg-ins = f .neg-ins; neg-lits = f .neg-lits; some = f .some; counted = omega arith }
+-- the same variables, and words from another place
+pub moved : (ns : List ℕ) (ins lits : List ℤ) (marks : List ℕ) (u : Run) (w : ℕ) → w ≤ 1200000 → Fit ns ins lits marks u → Fit ns ins lits marks (from (u .next) w)
+moved ns ins lits marks u w h f = record { ok = f .ok; same = f .same; neg-ins = f .neg-ins; neg-lits = f .neg-lits; some = f .some; counted = omega arith }
 
 pub node-is : (ns : List ℕ) (ni nc k : ℕ) (n l r : Node) → n ≡ nodeAt ns k → l ≡ nodeAt ns (n .left) → r ≡ nodeAt ns (n .right) → nodeFit n l r ni nc k ≡ fitAt ns ni nc k
 node-is ns ni nc k n l r a b d = rw (b, d, a)
 
 pub fit-made : (ns : List ℕ) (ins lits : List ℤ) (marks : List ℕ) (a b c : Bool) → a ≡ nodesFit ns (length ins) (length lits) → b ≡ inputsOk ins (length ins) (2 ^ 31) → c ≡ cellsOk lits marks (length lits) 1 (2 ^ 31)
-    → length lits ≡ length marks → ((a && b) && c) ≡ true → Fit ns ins lits marks (begin 4097)
+    → length lits ≡ length marks → ((a && b) && c) ≡ true → Fit ns ins lits marks (from 4097 0)
 fit-made ns ins lits marks a b c ea eb ec h e =
     let k = ands3 a b c e in
     record {

@@ -1,6 +1,10 @@
-// 02's Item 13: 4,096 leaves in a balanced tree of units, demands at index 0 to 63 of the root: If; and, from cleared rows,
-// both. It writes how many words each takes. A tree of 8,191 nodes is past the public calls' limit, so the recursion itself
-// runs, on rows made here.
+// 02's Item 13: 4,096 leaves in a balanced tree of units, demands at index 0 to 63 of the root, from cleared rows, timed from
+// outside. A tree of 8,191 nodes is past the public calls' limit, so the recursion itself runs, on rows made here. Standard
+// input has two bytes: the part, and how often: 0 for once, 1 for ten times, 2, 3. Written is how many words the demands take.
+//   i, I: If, in earnest; and dry, on a full clause row, as a public call counts first
+//   b, B: both directions, in earnest; and dry
+//   r: no demand: what clearing and checking the rows takes
+//   anything else: i, I, b and B, one after the other
 use clause::put;
 use count::define_unweighted_rec;
 use paper::Node;
@@ -17,7 +21,7 @@ ghost use mathlib.Core.Bool.{true};
 ghost use Prim.Native.Nat.{ℕ, _/_, _≤_};
 ghost use lib.ListN.{length};
 ghost use Rattle.count.specs.Run.{Fit};
-ghost use Rattle.bench_count.specs.Ready.{nodeFit, nodesFit, begin};
+ghost use Rattle.bench_count.specs.Ready.{nodeFit, nodesFit, from};
 
 // A word, where it is inside the row.
 fn put_word(nodes: &mut [u32], at: usize, w: usize) {
@@ -128,7 +132,7 @@ fn nodes_fit(nodes: &[u32], ni: usize, nc: usize) -> bool
 
 // The rows are what the recursion requires.
 fn ready(nodes: &[u32], inputs: &[i32], lits: &[i32], marks: &[u8]) -> bool
-    ensures { λ x. ⌜ (x ≡ true → Fit (now (nodes .entry)) (now (inputs .entry)) (now (lits .entry)) (now (marks .entry)) (begin 4097)) ⌝ }
+    ensures { λ x. ⌜ (x ≡ true → Fit (now (nodes .entry)) (now (inputs .entry)) (now (lits .entry)) (now (marks .entry)) (from 4097 0)) ⌝ }
 {
     if lits.len() != marks.len() {
         return false;
@@ -139,7 +143,7 @@ fn ready(nodes: &[u32], inputs: &[i32], lits: &[i32], marks: &[u8]) -> bool
     a & b & c
 }
 
-// A demand from an empty clause row. Where variables could run out, or the output is not there, nothing is done.
+// A demand. Where variables could run out, or the output is not there, nothing is done.
 fn demand_one(
     nodes: &[u32],
     inputs: &[i32],
@@ -148,13 +152,12 @@ fn demand_one(
     row: &mut [i32],
     i: usize,
     want: Want,
-    next: usize,
+    run: Run,
 ) -> Run
-    requires { ⌜ Fit (now nodes) (now inputs) (now lits) (now marks) (begin next) ⌝ }
+    requires { ⌜ Fit (now nodes) (now inputs) (now lits) (now marks) run ⌝ }
     ensures { λ r. ⌜ Fit (now (nodes .entry)) (now (inputs .entry)) (now (lits .exit)) (now (marks .exit)) r ⌝ }
 {
-    let run = Run { next, words: 0 };
-    if 1000000 < next {
+    if 1000000 < run.next {
         return run;
     }
     if 1000000 < lits.len() {
@@ -178,7 +181,22 @@ fn more(words: usize, n: usize) -> usize {
     words
 }
 
-// The demands, and the words that they take.
+fn less(words: usize, n: usize) -> usize {
+    if n <= words { words - n } else { 0 }
+}
+
+// Where the next demand's words begin: in earnest behind the last one's, or at the row's start again where they might not fit;
+// dry at the row's end.
+fn place(words: usize, dry: bool) -> usize
+    ensures { λ r. ⌜ r ≤ 1200000 ⌝ }
+{
+    if dry {
+        return 1200000;
+    }
+    if words <= 1000000 { words } else { 0 }
+}
+
+// The demands below count, and the words that they take.
 fn demand_all(
     nodes: &[u32],
     inputs: &[i32],
@@ -186,17 +204,22 @@ fn demand_all(
     marks: &mut [u8],
     row: &mut [i32],
     want: Want,
+    dry: bool,
+    count: usize,
 ) -> usize {
     let mut words = 0;
     if !ready(nodes, inputs, lits, marks) {
         return words;
     }
     let mut next = 4097;
+    let mut at = place(0, dry);
     let mut i = 0;
-    while i < 64 {
-        let r = demand_one(nodes, inputs, lits, marks, row, i, want, next);
+    while i < count {
+        let run = Run { next, words: at };
+        let r = demand_one(nodes, inputs, lits, marks, row, i, want, run);
         next = r.next;
-        words = more(words, r.words);
+        words = more(words, less(r.words, at));
+        at = place(r.words, dry);
         i += 1;
     }
     words
@@ -221,6 +244,7 @@ fn build(nodes: &mut [u32; 65528], inputs: &mut [i32; 4096]) {
     put_units(nodes);
 }
 
+// The demands n times, each time from cleared rows.
 fn demands(
     nodes: &[u32; 65528],
     inputs: &[i32; 4096],
@@ -228,9 +252,56 @@ fn demands(
     marks: &mut [u8; 49152],
     row: &mut [i32; 1200000],
     want: Want,
+    dry: bool,
+    count: usize,
+    n: usize,
 ) {
-    say(demand_all(nodes, inputs, lits, marks, row, want));
-    clear(lits, marks);
+    let mut words = 0;
+    let mut i = 0;
+    while i < n {
+        clear(lits, marks);
+        words = demand_all(nodes, inputs, lits, marks, row, want, dry, count);
+        i += 1;
+    }
+    say(words);
+}
+
+fn times(digit: u8) -> usize {
+    match digit {
+        b'1' => 10,
+        b'2' => 100,
+        b'3' => 1000,
+        _ => 1,
+    }
+}
+
+fn part(
+    nodes: &[u32; 65528],
+    inputs: &[i32; 4096],
+    lits: &mut [i32; 49152],
+    marks: &mut [u8; 49152],
+    row: &mut [i32; 1200000],
+    which: u8,
+    n: usize,
+) {
+    let fi = Want {
+        fi: true,
+        fo: false,
+    };
+    let both = Want { fi: true, fo: true };
+    match which {
+        b'i' => demands(nodes, inputs, lits, marks, row, fi, false, 64, n),
+        b'I' => demands(nodes, inputs, lits, marks, row, fi, true, 64, n),
+        b'b' => demands(nodes, inputs, lits, marks, row, both, false, 64, n),
+        b'B' => demands(nodes, inputs, lits, marks, row, both, true, 64, n),
+        b'r' => demands(nodes, inputs, lits, marks, row, fi, false, 0, n),
+        _ => {
+            demands(nodes, inputs, lits, marks, row, fi, false, 64, n);
+            demands(nodes, inputs, lits, marks, row, fi, true, 64, n);
+            demands(nodes, inputs, lits, marks, row, both, false, 64, n);
+            demands(nodes, inputs, lits, marks, row, both, true, 64, n)
+        }
+    }
 }
 
 fn main() {
@@ -239,24 +310,10 @@ fn main() {
     let mut lits = [0i32; 49152];
     let mut marks = [0u8; 49152];
     let mut row = [0i32; 1200000];
+    let mut asked = [0u8; 2];
+    io::read_full(0, &mut asked);
+    let which = asked[0];
+    let n = times(asked[1]);
     build(&mut nodes, &mut inputs);
-    demands(
-        &nodes,
-        &inputs,
-        &mut lits,
-        &mut marks,
-        &mut row,
-        Want {
-            fi: true,
-            fo: false,
-        },
-    );
-    demands(
-        &nodes,
-        &inputs,
-        &mut lits,
-        &mut marks,
-        &mut row,
-        Want { fi: true, fo: true },
-    );
+    part(&nodes, &inputs, &mut lits, &mut marks, &mut row, which, n);
 }

@@ -41,12 +41,12 @@ returns-4 c = search needs
 
 -- src/main.rt:155:5
 define-unweighted-rec-requires : tie.Need-define-unweighted-rec-requires
-define-unweighted-rec-requires c κs = let s = c .before .before .before .before .before .before .before .before .before .before .before in
+define-unweighted-rec-requires c κs = let s = c .before .before .before .before .before .before .before .before .before .before .before .before in
     let o : s .args .i < outs (s .args .nodes .now) 8190 = omega (arith, c .before .before .before .if4 .left, c .before .before .before .before .con-len .ensures, ap valueCount (c .before .before .before .before .before .node-at .ensures)) in (
       s .pre,
       (
         record { below = omega (arith, c .before .before .before .before .before .before .if3 .left); out = o },
-        few-ends (counting (s .args .nodes .now) (s .args .inputs .now) 8190 (s .args .i) (s .args .want)) (counting-runs (s .args .nodes .now) (s .args .inputs .now) 8190 (s .args .i) (s .args .want)) 8191 (s .args .lits .now) (s .args .marks .now) (s .args .row .now) (omega (arith, s .good .1 .1 .1 .1 .0)) _ (omega arith) (s .pre .some) (omega (arith, c .before .before .before .before .before .before .before .before .if1 .left, c .before .before .before .before .before .before .before .if2 .left)),
+        few-ends (counting (s .args .nodes .now) (s .args .inputs .now) 8190 (s .args .i) (s .args .want)) (counting-runs (s .args .nodes .now) (s .args .inputs .now) 8190 (s .args .i) (s .args .want)) 8191 (s .args .lits .now) (s .args .marks .now) (s .args .row .now) (omega (arith, s .good .1 .1 .1 .1 .0)) _ (s .pre .counted) (s .pre .some) (omega (arith, c .before .before .before .before .before .before .before .before .if1 .left, c .before .before .before .before .before .before .before .if2 .left)),
       ),
     )
 
