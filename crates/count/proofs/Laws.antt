@@ -25,7 +25,7 @@ use Rattle.paper.specs.Plain.{litAt, hasNone, takenLits, takenNext, St, emitBot
 use Rattle.count.specs.Run.{Ends, state}
 use Rattle.clause.specs.Row.{Row, at-row, lay}
 use Rattle.count.proofs.Plan.{outs-unit, outs-dummy, cells-in, left-in, right-in}
-use Rattle.count.proofs.Ranges.{span-to, if-to, only-to}
+use Rattle.facts.specs.Ranges.{span-to, if-to, only-to}
 use Rattle.paper.specs.Limits.{nodeWords}
 use Rattle.paper.specs.declared.Node.{Node}
 use Rattle.paper.specs.declared.Run.{Run}

@@ -8,6 +8,7 @@ pub mod Plans
 pub mod Grown
 pub mod Taken
 pub mod Kept
+pub mod Ranges
 pub mod Rel
 pub mod Ran
 pub mod Demands

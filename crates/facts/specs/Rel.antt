@@ -25,6 +25,7 @@ use Rattle.paper.specs.declared.Precond.the-variants.{Return, Pass, Continue}
 use Rattle.paper.specs.declared.Found.the-variants.{At, Absent}
 use Rattle.paper.specs.declared.Way.{Way}
 use Rattle.paper.specs.declared.Job.the-variants.{Nothing, Count, Sum}
+use Rattle.facts.specs.Ranges.{if-to, only-to, span-to}
 use Rattle.facts.specs.Facts.{NodeFactsAt, a-leaf, a-dummy, a-unit, a-general, dummy-outputs, unit-outputs, general-outputs}
 
 -- what the runs rest on
@@ -77,18 +78,6 @@ span-rel {A} R re tr from to f m a = go (to - from) from (λ j h g. omega arith)
     go (suc n) k b a = tr a (f k a) (over n f (k + 1) (f k a)) (m k (b k (omega arith) (omega arith)) a) (go n (k + 1) (λ j h g. b j (omega arith) (omega arith)) (f k a))
 
 -- ---- every output that is asked for is there
-
-if-to : (a b i : ℕ) → ifSpan a b i .to ≤ a
-unfolding ifSpan
-if-to a b i = omega arith
-
-only-to : (a b i : ℕ) → onlySpan a b i .to ≤ a
-unfolding onlySpan
-only-to a b i = omega arith
-
-cond-to : (t : Bool) (s : Span) (a : ℕ) → s .to ≤ a → cond t s noSpan .to ≤ a
-cond-to true s a h = h
-cond-to false s a h = omega arith
 
 -- a key that is found stands among the n from the k-th on
 key-place : (keys : List ℕ) (first v n k : ℕ) → placeOf (keyFrom keys first v n k) ≤ k + n
@@ -191,10 +180,10 @@ module _ {S : Type 0} (put : S → Clause → S) (ns : List ℕ) (ins : List ℤ
       tr k s s3 s4
       (tr k s s2 s3
       (tr k s s1 s2
-      (demands-rel f m k (n .left) (cond (w .fi) (ifSpan a b i) noSpan) justIf s l (omega arith) (cond-to (w .fi) (ifSpan a b i) a (if-to a b i)))
-      (demands-rel f m k (n .right) (cond (w .fi) (ifSpan b a i) noSpan) justIf s1 r (omega arith) (cond-to (w .fi) (ifSpan b a i) b (if-to b a i))))
-      (demands-rel f m k (n .left) (cond (w .fo) (onlySpan a b i) noSpan) justOnly s2 l (omega arith) (cond-to (w .fo) (onlySpan a b i) a (only-to a b i))))
-      (demands-rel f m k (n .right) (cond (w .fo) (onlySpan b a i) noSpan) justOnly s3 r (omega arith) (cond-to (w .fo) (onlySpan b a i) b (only-to b a i)))
+      (demands-rel f m k (n .left) (cond (w .fi) (ifSpan a b i) noSpan) justIf s l (omega arith) (span-to (w .fi) (ifSpan a b i) a (if-to a b i)))
+      (demands-rel f m k (n .right) (cond (w .fi) (ifSpan b a i) noSpan) justIf s1 r (omega arith) (span-to (w .fi) (ifSpan b a i) b (if-to b a i))))
+      (demands-rel f m k (n .left) (cond (w .fo) (onlySpan a b i) noSpan) justOnly s2 l (omega arith) (span-to (w .fo) (onlySpan a b i) a (only-to a b i))))
+      (demands-rel f m k (n .right) (cond (w .fo) (onlySpan b a i) noSpan) justOnly s3 r (omega arith) (span-to (w .fo) (onlySpan b a i) b (only-to b a i)))
 
   -- a unit's plan, carried out
   unit-case : (f : ℕ → ℕ → Want → St S → St S) → Meets f → (k i : ℕ) (w : Want) (s : St S) → CellOf 1 ns nodes k i

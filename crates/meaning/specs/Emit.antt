@@ -2,7 +2,7 @@
 use mathlib.Core.Path.{_≡_, refl, sym, _∙_, ap, ap₂}
 use mathlib.Core.Bool.{Bool, true, false, not, cond}
 use mathlib.Core.List.{List, [], _∷_, _++_, append-assoc, append-nil}
-use Prim.Native.Nat.{ℕ, zero, suc, _+_, _-_, _<_, _≤_, min}
+use Prim.Native.Nat.{ℕ, zero, suc, _+_, _-_, _<_, _≤_}
 use native.Mathlib.Numerals.{add-one}
 use native.Mathlib.Omega.{arith}
 use lib.IntN.{ℤ, pos, negℤ}
@@ -15,7 +15,8 @@ use Rattle.paper.specs.declared.Clause.{Clause}
 use Rattle.paper.specs.declared.Want.{Want}
 use Rattle.meaning.specs.Base.{AtPrev, prev, keep}
 use Rattle.meaning.specs.Table.{If, OnlyIf, Tab, History, lit}
-use Rattle.meaning.specs.Lists.{upto, ifLow, ifCount, onlyLow, onlyCount, if-range-back, only-range-back, leftCount, rightCount, ownList}
+use Rattle.facts.specs.Ranges.{xFrom, xCount, list-split}
+use Rattle.meaning.specs.Lists.{upto, leftCount, rightCount, ownList}
 use Rattle.meaning.specs.Words.{flat, flat-append}
 
 -- the literals of a clause value
@@ -84,20 +85,20 @@ module _ (t : Tab) (n i : ℕ) (l r : List ℤ) (o : ℤ) (la : length l ≡ lef
   unfolding emitIf
   emit-if h =
       over-upto (λ x. litsIn (ifClause l r x (i + 1 - x) o)) _ _ h
-      ∙ rw (la, ra, oo, add-one i, add-one (min (leftCount t n) (suc i)))
-      (ap (λ (s : History). h ++ s) (upto-cong _ _ (ifCount (leftCount t n) (rightCount t n) i) (ifLow (rightCount t n) i) (λ x a b.
-      let (hx, hy, e) = if-range-back (leftCount t n) (rightCount t n) i x a b in
-      if-lits l r (lit t (t .node n .left)) (lit t (t .node n .right)) (pos (t .held n i)) x (suc i - x)
-      (prev-of (λ p. litAt l p ≡ lit t (t .node n .left) p) (leftCount t n) x hx ll) (prev-of (λ p. litAt r p ≡ lit t (t .node n .right) p) (rightCount t n) (suc i - x) hy rl))))
+      ∙ rw (la, ra, oo)
+      (ap (λ (s : History). h ++ s) (upto-cong _ _ (xCount (leftCount t n) (rightCount t n) (i + 1)) (xFrom (rightCount t n) (i + 1)) (λ x a b.
+      let s = list-split (leftCount t n) (rightCount t n) (i + 1) x a b in
+      if-lits l r (lit t (t .node n .left)) (lit t (t .node n .right)) (pos (t .held n i)) x (i + 1 - x)
+      (prev-of (λ p. litAt l p ≡ lit t (t .node n .left) p) (leftCount t n) x (s .left) ll) (prev-of (λ p. litAt r p ≡ lit t (t .node n .right) p) (rightCount t n) (i + 1 - x) (s .right) rl))))
 
   pub emit-only : (h : History) → emitOnly gather l r i o h ≡ h ++ ownList OnlyIf t n i
   unfolding emitOnly
   emit-only h =
       over-upto (λ x. litsIn (onlyClause l r x (i - x) o)) _ _ h
-      ∙ rw (la, ra, oo, add-one (min (leftCount t n) i))
-      (ap (λ (s : History). h ++ s) (upto-cong _ _ (onlyCount (leftCount t n) (rightCount t n) i) (onlyLow (rightCount t n) i) (λ x a b.
-      let (hx, hy, e) = only-range-back (leftCount t n) (rightCount t n) i x a b in
-      rw (la, ra) at (only-lits l r (lit t (t .node n .left)) (lit t (t .node n .right)) (pos (t .held n i)) x (i - x) (rw la hx) (rw ra hy)
+      ∙ rw (la, ra, oo)
+      (ap (λ (s : History). h ++ s) (upto-cong _ _ (xCount (leftCount t n) (rightCount t n) i) (xFrom (rightCount t n) i) (λ x a b.
+      let s = list-split (leftCount t n) (rightCount t n) i x a b in
+      rw (la, ra) at (only-lits l r (lit t (t .node n .left)) (lit t (t .node n .right)) (pos (t .held n i)) x (i - x) (rw la (s .left)) (rw ra (s .right))
       (λ q. ll x (rw la at q)) (λ q. rl (i - x) (rw ra at q))))))
 
   abbrev pub when : Bool → History → History

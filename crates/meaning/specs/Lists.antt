@@ -1,4 +1,4 @@
--- The own clauses as lists, in the order of the paper, and the facts about the ranges of x, proved once over a, b and i.
+-- The own clauses as lists, in the order of the paper.
 use mathlib.Core.Path.{_≡_, ap}
 use mathlib.Core.List.{List, [], _∷_, List·Memᴰ, List·Memᴰ·head, List·Memᴰ·tail, List·Memᴰ·cases-cons, List·Memᴰ·not-nil}
 use mathlib.Core.Logic.{_⊎_, inl, inr}
@@ -6,8 +6,9 @@ use Prim.Native.Nat.{ℕ, zero, suc, _+_, _*_, _-_, _<_, _≤_, min}
 use native.Mathlib.Decide.{ℕ-discrete}
 use native.Mathlib.Omega.{arith}
 use lib.IntN.{ℤ}
+use Rattle.facts.specs.Ranges.{xFrom, xCount, Split, split-swap, list-split, list-back, Need, if-need, only-need}
 use Rattle.meaning.specs.Base.{AtPrev, same-of, in-of}
-use Rattle.meaning.specs.Table.{unit, Dir, If, OnlyIf, Tab, Marks, Done, keyAt, IfPair, ifOf, onlyOf, UnitOk, Shape, History, Closed, Cell, Own, ownIf, ownOnly, Inv}
+use Rattle.meaning.specs.Table.{unit, Dir, If, OnlyIf, Tab, Marks, Done, keyAt, IfPair, OnlyPair, ifOf, onlyOf, UnitOk, Shape, History, Closed, Cell, Own, ownIf, ownOnly, Inv}
 use Rattle.meaning.specs.Sound.{key-small}
 use Rattle.meaning.specs.Keep.{done-held, at-done-held}
 
@@ -33,38 +34,6 @@ of-upto f (suc k) b c m = go (λ q. of-upto f k (suc b) c q) (List·Memᴰ·case
     go ih (inl e) = (b, omega arith, omega arith, e)
     go ih (inr q) = let r = ih q in (r .0, omega arith, omega arith, r .3)
 
--- the paper's ranges: If x from i+1-min(b,i+1) to min(a,i+1); OnlyIf x from i-min(b,i) to min(a,i)
-abbrev pub ifLow : ℕ → ℕ → ℕ
-ifLow b i = suc i - min b (suc i)
-
-abbrev pub ifCount : ℕ → ℕ → ℕ → ℕ
-ifCount a b i = suc (min a (suc i)) - ifLow b i
-
-abbrev pub onlyLow : ℕ → ℕ → ℕ
-onlyLow b i = i - min b i
-
-abbrev pub onlyCount : ℕ → ℕ → ℕ → ℕ
-onlyCount a b i = suc (min a i) - onlyLow b i
-
-pub if-range : (a b i x y : ℕ) → x ≤ a → y ≤ b → x + y ≡ suc i → (ifLow b i ≤ x) × (x < ifLow b i + ifCount a b i) × (y ≡ suc i - x)
-if-range a b i x y hx hy e = (omega arith, omega arith, omega arith)
-
-pub if-range-back : (a b i x : ℕ) → ifLow b i ≤ x → x < ifLow b i + ifCount a b i → (x ≤ a) × (suc i - x ≤ b) × (x + (suc i - x) ≡ suc i)
-if-range-back a b i x h l = (omega arith, omega arith, omega arith)
-
-pub only-range : (a b i x y : ℕ) → x ≤ a → y ≤ b → x + y ≡ i → (onlyLow b i ≤ x) × (x < onlyLow b i + onlyCount a b i) × (y ≡ i - x)
-only-range a b i x y hx hy e = (omega arith, omega arith, omega arith)
-
-pub only-range-back : (a b i x : ℕ) → onlyLow b i ≤ x → x < onlyLow b i + onlyCount a b i → (x ≤ a) × (i - x ≤ b) × (x + (i - x) ≡ i)
-only-range-back a b i x h l = (omega arith, omega arith, omega arith)
-
--- item 14's count: exactly this many clauses of its own for each direction, at most min(a,b) + 1
-pub if-count-bound : (a b i : ℕ) → i < a + b → ifCount a b i ≤ suc (min a b)
-if-count-bound a b i h = omega arith
-
-pub only-count-bound : (a b i : ℕ) → i < a + b → onlyCount a b i ≤ suc (min a b)
-only-count-bound a b i h = omega arith
-
 abbrev pub leftCount : Tab → ℕ → ℕ
 leftCount t n = t .node (t .node n .left) .count
 
@@ -73,15 +42,10 @@ rightCount t n = t .node (t .node n .right) .count
 
 -- the clauses that output i of the unit n appends for a direction
 abbrev pub ownList : Dir → Tab → ℕ → ℕ → History
-ownList If t n i = upto (λ x. ifOf t n i x (suc i - x)) (ifLow (rightCount t n) i) (ifCount (leftCount t n) (rightCount t n) i)
-ownList OnlyIf t n i = upto (λ x. onlyOf t n i x (i - x)) (onlyLow (rightCount t n) i) (onlyCount (leftCount t n) (rightCount t n) i)
+ownList If t n i = upto (λ x. ifOf t n i x (i + 1 - x)) (xFrom (rightCount t n) (i + 1)) (xCount (leftCount t n) (rightCount t n) (i + 1))
+ownList OnlyIf t n i = upto (λ x. onlyOf t n i x (i - x)) (xFrom (rightCount t n) i) (xCount (leftCount t n) (rightCount t n) i)
 
--- the outputs of a child with a outputs, beside one with b, that output i uses: the same for both directions
-pub record Need (a b i p : ℕ) : Type 0 where
-  pub inside : p < a
-  pub low : p ≤ i
-  pub high : i ≤ p + b
-
+-- the children's outputs that output i reads are done
 pub record Needs (t : Tab) (m : Marks) (d : Dir) (n i : ℕ) : Type 0 where
   pub lneed : (p : ℕ) → Need (leftCount t n) (rightCount t n) i p → Done t m d (t .node n .left) p
   pub rneed : (q : ℕ) → Need (rightCount t n) (leftCount t n) i q → Done t m d (t .node n .right) q
@@ -93,17 +57,23 @@ module _ (t : Tab) (shape : Shape t) (n i : ℕ) (s : n < t .size) (o : UnitOk t
   small-right : (y : ℕ) → y ≤ rightCount t n → keyAt t (t .node n .right) y ≡ y
   small-right y hy = let sr : t .node n .right < t .size = omega (arith, o .hr) in key-small t (t .node n .right) (t .node (t .node n .right) .kind) (shape (t .node n .right) sr) (o .right-kind) y hy
 
-  pub unit-sum : (x y : ℕ) → IfPair t n i x y → x + y ≡ suc i
-  unit-sum x y pr =
+  -- the pairs of If are the splits of i + 1, those of OnlyIf the splits of i
+  unit-split : (x y : ℕ) → IfPair t n i x y → Split (leftCount t n) (rightCount t n) (i + 1) x y
+  unit-split x y pr =
       let a : 1 * x + 1 * y ≡ suc i = rw (o .lmul-is, o .rmul-is, small-left x (pr .hx), small-right y (pr .hy), o .key-is i hi) at (pr .sum) in
-      omega arith
+      record { left = pr .hx; right = pr .hy; sum = omega arith }
 
-  pub unit-pair : (x y : ℕ) → x ≤ leftCount t n → y ≤ rightCount t n → x + y ≡ suc i → IfPair t n i x y
-  unit-pair x y hx hy e = record { hx = hx; hy = hy; sum = rw (o .lmul-is, o .rmul-is, small-left x hx, small-right y hy, o .key-is i hi) (omega arith) }
+  unit-pair : (x y : ℕ) → Split (leftCount t n) (rightCount t n) (i + 1) x y → IfPair t n i x y
+  unit-pair x y sp =
+      let e = sp .sum in
+      record { hx = sp .left; hy = sp .right; sum = rw (o .lmul-is, o .rmul-is, small-left x (sp .left), small-right y (sp .right), o .key-is i hi) (omega arith) }
 
-  prev-need : (P : ℕ → Type 0) (a b x y : ℕ) → ((p : ℕ) → Need a b i p → P p) → x ≤ a → y ≤ b → x + y ≡ suc i → AtPrev P x
-  prev-need P a b zero y f hx hy e = tt
-  prev-need P a b (suc p) y f hx hy e = f p (record { inside = hx; low = omega arith; high = omega arith })
+  only-split : (x y : ℕ) → OnlyPair t n i x y → Split (leftCount t n) (rightCount t n) i x y
+  only-split x y pr = record { left = pr .hx; right = pr .hy; sum = pr .sum }
+
+  prev-need : (P : ℕ → Type 0) (a b x y : ℕ) → ((p : ℕ) → Need a b i p → P p) → Split a b (i + 1) x y → AtPrev P x
+  prev-need P a b zero y f sp = tt
+  prev-need P a b (suc p) y f sp = f p (if-need a b i p y sp)
 
   module _ (m : Marks) (h : History) (inv : Inv t m h) (k : t .node n .kind ≡ unit) (held : 0 < t .held n i) where
     cell : Cell t n i
@@ -113,68 +83,44 @@ module _ (t : Tab) (shape : Shape t) (n i : ℕ) (s : n < t .size) (o : UnitOk t
     pub list-own : (d : Dir) → Needs t m d n i → (c : List ℤ) → List·Memᴰ c (ownList d t n i) → Own t c
     list-own If w c mem =
         let (x, lo, up, e) = of-upto _ _ _ c mem in
-        let (hx, hy, sum) = if-range-back (leftCount t n) (rightCount t n) i x lo up in
-        let y : ℕ = suc i - x in
+        let sp = list-split (leftCount t n) (rightCount t n) (i + 1) x lo up in
+        let y : ℕ = i + 1 - x in
         ownIf n i x y cell (record {
-          pair = unit-pair x y hx hy sum;
-          lheld = at-done-held t m h inv If (t .node n .left) x (omega (arith, o .hl)) hx (prev-need _ (leftCount t n) (rightCount t n) x y (w .lneed) hx hy sum);
-          rheld = at-done-held t m h inv If (t .node n .right) y (omega (arith, o .hr)) hy (prev-need _ (rightCount t n) (leftCount t n) y x (w .rneed) hy hx (omega arith));
+          pair = unit-pair x y sp;
+          lheld = at-done-held t m h inv If (t .node n .left) x (omega (arith, o .hl)) (sp .left) (prev-need _ (leftCount t n) (rightCount t n) x y (w .lneed) sp);
+          rheld = at-done-held t m h inv If (t .node n .right) y (omega (arith, o .hr)) (sp .right) (prev-need _ (rightCount t n) (leftCount t n) y x (w .rneed) (split-swap _ _ _ x y sp));
           is = same-of c _ e;
         })
     list-own OnlyIf w c mem =
         let (x, lo, up, e) = of-upto _ _ _ c mem in
-        let (hx, hy, sum) = only-range-back (leftCount t n) (rightCount t n) i x lo up in
+        let sp = list-split (leftCount t n) (rightCount t n) i x lo up in
         let y : ℕ = i - x in
         ownOnly n i x y cell (record {
           kind = k;
-          pair = record { hx = hx; hy = hy; sum = sum };
-          lheld = λ q. done-held t m h inv OnlyIf (t .node n .left) x (omega (arith, o .hl)) q (w .lneed x (record { inside = q; low = omega arith; high = omega arith }));
-          rheld = λ q. done-held t m h inv OnlyIf (t .node n .right) y (omega (arith, o .hr)) q (w .rneed y (record { inside = q; low = omega arith; high = omega arith }));
+          pair = record { hx = sp .left; hy = sp .right; sum = sp .sum };
+          lheld = λ q. done-held t m h inv OnlyIf (t .node n .left) x (omega (arith, o .hl)) q (w .lneed x (only-need _ _ i x y sp q));
+          rheld = λ q. done-held t m h inv OnlyIf (t .node n .right) y (omega (arith, o .hr)) q (w .rneed y (only-need _ _ i y x (split-swap _ _ _ x y sp) q));
           is = same-of c _ e;
         })
 
   -- with the list in the history and the children's outputs done, the output is closed
   pub list-closed : (m : Marks) (h : History) (d : Dir) → t .node n .kind ≡ unit → Needs t m d n i → ((c : List ℤ) → List·Memᴰ c (ownList d t n i) → List·Memᴰ c h) → Closed t m h d n i
   list-closed m h If k w sub = λ x y pr.
-      let sum = unit-sum x y pr in
-      let (lo, up, e) = if-range (leftCount t n) (rightCount t n) i x y (pr .hx) (pr .hy) sum in
+      let sp = unit-split x y pr in
+      let (lo, up, e) = list-back (leftCount t n) (rightCount t n) (i + 1) x y sp in
       record {
-        there = in-of (ifOf t n i x y) h (sub (ifOf t n i x y) (rw e (in-upto (λ z. ifOf t n i z (suc i - z)) _ _ x lo up)));
-        ldone = prev-need _ (leftCount t n) (rightCount t n) x y (w .lneed) (pr .hx) (pr .hy) sum;
-        rdone = prev-need _ (rightCount t n) (leftCount t n) y x (w .rneed) (pr .hy) (pr .hx) (omega arith);
+        there = in-of (ifOf t n i x y) h (sub (ifOf t n i x y) (rw e (in-upto (λ z. ifOf t n i z (i + 1 - z)) _ _ x lo up)));
+        ldone = prev-need _ (leftCount t n) (rightCount t n) x y (w .lneed) sp;
+        rdone = prev-need _ (rightCount t n) (leftCount t n) y x (w .rneed) (split-swap _ _ _ x y sp);
       }
   list-closed m h OnlyIf k w sub = (
     k,
     λ x y pr.
-        let (lo, up, e) = only-range (leftCount t n) (rightCount t n) i x y (pr .hx) (pr .hy) (pr .sum) in
-        let hx = pr .hx in
-        let hy = pr .hy in
-        let sum = pr .sum in
+        let sp = only-split x y pr in
+        let (lo, up, e) = list-back (leftCount t n) (rightCount t n) i x y sp in
         record {
           there = in-of (onlyOf t n i x y) h (sub (onlyOf t n i x y) (rw e (in-upto (λ z. onlyOf t n i z (i - z)) _ _ x lo up)));
-          ldone = λ q. w .lneed x (record { inside = q; low = omega arith; high = omega arith });
-          rdone = λ q. w .rneed y (record { inside = q; low = omega arith; high = omega arith });
+          ldone = λ q. w .lneed x (only-need _ _ i x y sp q);
+          rdone = λ q. w .rneed y (only-need _ _ i y x (split-swap _ _ _ x y sp) q);
         },
   )
-
--- the paper's runs of x, as runs of the children's outputs: for both directions the left's outputs from i-b up to below min(a,i+1), the right's from i-a up to below min(b,i+1)
-pub if-left-from : (a b i : ℕ) → ifLow b i - 1 ≡ i - b
-if-left-from a b i = omega arith
-
-pub if-right-from : (a b i : ℕ) → (suc i - min a (suc i)) - 1 ≡ i - a
-if-right-from a b i = omega arith
-
-pub if-right-to : (a b i : ℕ) → suc i - ifLow b i ≡ min b (suc i)
-if-right-to a b i = omega arith
-
-pub only-left-from : (a b i : ℕ) → onlyLow b i ≡ i - b
-only-left-from a b i = omega arith
-
-pub only-left-to : (a b i x : ℕ) → ((x ≤ min a i) × (x < a) → x < min a (suc i)) × (x < min a (suc i) → (x ≤ min a i) × (x < a))
-only-left-to a b i x = (λ h. let p = h .0 in let q = h .1 in omega arith, λ h. (omega arith, omega arith))
-
-pub only-right-from : (a b i : ℕ) → i - min a i ≡ i - a
-only-right-from a b i = omega arith
-
-pub only-right-to : (a b i y : ℕ) → ((y ≤ i - onlyLow b i) × (y < b) → y < min b (suc i)) × (y < min b (suc i) → (y ≤ i - onlyLow b i) × (y < b))
-only-right-to a b i y = (λ h. let p = h .0 in let q = h .1 in omega arith, λ h. (omega arith, omega arith))

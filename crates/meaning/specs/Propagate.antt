@@ -3,11 +3,12 @@ use mathlib.Core.Path.{_≡_, refl}
 use mathlib.Core.Bool.{Bool, true, false, not}
 use mathlib.Core.List.{List, [], _∷_, List·Memᴰ, List·Memᴰ·head, List·Memᴰ·tail, List·Memᴰ·cases-cons, List·Memᴰ·not-nil}
 use mathlib.Core.Logic.{_⊎_, inl, inr}
-use Prim.Native.Nat.{ℕ, zero, suc, _-_, _<_, _≤_, min}
+use Prim.Native.Nat.{ℕ, zero, suc, _<_, _≤_}
 use native.Mathlib.Omega.{arith}
 use lib.IntN.{ℤ, pos, negℤ, negℤ-negℤ}
 use lib.Dec.{ltb}
 use borrow.Author.Tests.{ltb-true}
+use Rattle.facts.specs.Ranges.{Split, split-some}
 use Rattle.meaning.specs.Base.{AtPrev, prev, keep, In}
 use Rattle.meaning.specs.Table.{Kind, leaf, dummy, unit, general, If, OnlyIf, Tab, Marks, litOf, lit, doneOf, Done, NotGeneral, OnlyPair, ifOf, onlyOf, NodeOk, bit, ValueOf, Values, History, Inv}
 use Rattle.meaning.specs.Sound.{strong, bound, key-small, ReachOf, choose-unit}
@@ -133,11 +134,8 @@ module _ (t : Tab) (m : Marks) (h : History) (inv : Inv t m h) (K : ℤ → Bool
         let br = bound t (inv .shape) (λ z. not (K (negℤ z))) w vals q sr (o .right-kind) in
         let ek = o .key-is j hj in
         let ec = o .count-is in
-        let x : ℕ = min cl (j - w q) in
-        let y : ℕ = j - x in
-        let lx : w l ≤ x = omega arith in
-        let ly : w q ≤ y = omega arith in
-        let pr : OnlyPair t n j x y = record { hx = omega arith; hy = omega arith; sum = omega arith } in
+        let (x, y, sp, lx, ly) = split-some cl cr (w l) (w q) j bl br (omega arith) (omega arith) in
+        let pr : OnlyPair t n j x y = record { hx = sp .left; hy = sp .right; sum = sp .sum } in
         let c = inv .marked OnlyIf n j s hj d .closed .1 x y pr in
         let z : ℤ = negℤ (pos (t .held n j)) in
         fire h K (onlyOf t n j x y) z (c .there) (in-keep z (ltb x cl) (lit t l x) _ (in-keep z (ltb y cr) (lit t q y) _ (List·Memᴰ·head refl)))

@@ -3,7 +3,7 @@ use mathlib.Core.Path.{_≡_, refl, sym, _∙_, ap, subst}
 use mathlib.Core.Bool.{Bool, true, false, not, cond, _&&_, true≢false, false≢true}
 use mathlib.Core.List.{List, [], _++_, List·Memᴰ, List·Memᴰ·not-nil, Memᴰ·append-left, Memᴰ·append-right}
 use mathlib.Core.Logic.{_⊎_, inl, inr}
-use Prim.Native.Nat.{ℕ, zero, suc, _+_, _-_, _<_, min}
+use Prim.Native.Nat.{ℕ, zero, suc, _+_, _-_, _<_}
 use native.Mathlib.Omega.{arith}
 use lib.IntN.{ℤ, pos}
 use lib.ListN.{getD, set}
@@ -17,7 +17,8 @@ use Rattle.paper.specs.declared.Span.{Span}
 use Rattle.paper.specs.declared.Precond.{Precond}
 use Rattle.paper.specs.declared.Precond.the-variants.{Return, Pass, Continue}
 use Rattle.meaning.specs.Table.{Kind, leaf, dummy, unit, general, Dir, If, OnlyIf, Done, NotGeneral, Inner, UnitOk, NodeOk, History, Closed}
-use Rattle.meaning.specs.Lists.{ownList, Need, Needs, list-own, list-closed}
+use Rattle.facts.specs.Ranges.{askSpan, if-ask, only-ask, Need, need-asked, need-alone, need-none, ask-to}
+use Rattle.meaning.specs.Lists.{ownList, Needs, list-own, list-closed}
 use Rattle.meaning.specs.Rows.{Net, State, tabOf, marksOf, hasMark, Good, Grow, grow-refl, grow-trans, Still, still-refl, still-trans, still-from, ensure, put, append, held-inner, mark-inner, Ensured, ensure-good, still-done, done-of-true, put-at, put-grow, put-still, put-good, append-good, append-grow}
 use Rattle.meaning.specs.View.{kindOf, netOf, Fit, test-is, count-is, lits-length, lits-at, cell-lit}
 use Rattle.meaning.specs.Emit.{gather, emit-both}
@@ -179,16 +180,16 @@ module _ (ns : List ℕ) (ins : List ℤ) (keys : List ℕ) (size from len : ℕ
         → Needs (tabOf g σ) (marksOf g σ) d n i
     through-right σ d z h =
         record {
-          lneed = λ p w. absurd (let a = w .inside in let x : ⊥ = omega arith in x);
-          rneed = λ p w. let a = w .low in let b = w .high in let e : p ≡ i = omega arith in rw e h;
+          lneed = λ p w. absurd (need-none _ _ i p z w);
+          rneed = λ p w. rw (need-alone _ _ i p z w) h;
         }
 
     through-left : (σ : State) (d : Dir) → valueCount (nodeAt ns (nodeAt ns n .right)) ≡ 0 → Done (tabOf g σ) (marksOf g σ) d (nodeAt ns n .left) i
         → Needs (tabOf g σ) (marksOf g σ) d n i
     through-left σ d z h =
         record {
-          lneed = λ p w. let a = w .low in let b = w .high in let e : p ≡ i = omega arith in rw e h;
-          rneed = λ p w. absurd (let a = w .inside in let x : ⊥ = omega arith in x);
+          lneed = λ p w. rw (need-alone _ _ i p z w) h;
+          rneed = λ p w. absurd (need-none _ _ i p z w);
         }
 
     module _ (r : Rec) (ok : RecOk g len r n) where
@@ -237,21 +238,27 @@ module _ (ns : List ℕ) (ins : List ℤ) (keys : List ℕ) (size from len : ℕ
         still : Still g n σ σ'
         done : on ≡ true → (p : ℕ) → Need (valueCount (nodeAt ns c)) b i p → Done (tabOf g σ') (marksOf g σ') d c p
 
+      ask : (d : Dir) (a b : ℕ) → spanOf d a b ≡ askSpan a b i
+      ask If a b = if-ask a b i
+      ask OnlyIf a b = only-ask a b i
+
+      ask-good : (d : Dir) (c b : ℕ) → c < n → NotGeneral (kindOf (nodeAt ns c .kind)) → (σ : State) → Good g len σ
+          → Looped d true c b σ (demandsOf gather r c (askSpan (valueCount (nodeAt ns c)) b i) (just d) σ)
+      unfolding demandsOf over
+      ask-good d c b hc kc σ good =
+          let a = valueCount (nodeAt ns c) in
+          let from = askSpan a b i .from in
+          let to = askSpan a b i .to in
+          let top = ask-to a b i in
+          let w = walk-good g len n (omega arith) r ok (just d) c hc kc (to - from) from σ (λ h. omega arith) good in
+          record { good = w .good; grow = w .grow; still = w .still; done = λ e p q. let (x, y) = need-asked a b i p q in w .done d (just-wants d) p x (omega arith) }
+
       loop-good : (d : Dir) (on : Bool) (c b : ℕ) → c < n → NotGeneral (kindOf (nodeAt ns c .kind)) → (σ : State) → Good g len σ
           → Looped d on c b σ (demandsOf gather r c (cond on (spanOf d (valueCount (nodeAt ns c)) b) noSpan) (just d) σ)
-      unfolding demandsOf ifSpan onlySpan over
-      loop-good If true c b hc kc σ good =
+      unfolding demandsOf over
+      loop-good d true c b hc kc σ good =
           let a = valueCount (nodeAt ns c) in
-          let from = i + 1 - min b (i + 1) - 1 in
-          let to = min a (i + 1) in
-          let w = walk-good g len n (omega arith) r ok justIf c hc kc (to - from) from σ (λ h. omega arith) good in
-          record { good = w .good; grow = w .grow; still = w .still; done = λ e p q. let x = q .inside in let y = q .low in let z = q .high in w .done If refl p (omega arith) (omega arith) }
-      loop-good OnlyIf true c b hc kc σ good =
-          let a = valueCount (nodeAt ns c) in
-          let from = i - min b i in
-          let to = min a (i + 1) in
-          let w = walk-good g len n (omega arith) r ok justOnly c hc kc (to - from) from σ (λ h. omega arith) good in
-          record { good = w .good; grow = w .grow; still = w .still; done = λ e p q. let x = q .inside in let y = q .low in let z = q .high in w .done OnlyIf refl p (omega arith) (omega arith) }
+          subst (λ (sp : Span). Looped d true c b σ (demandsOf gather r c sp (just d) σ)) (sym (ask d a b)) (ask-good d c b hc kc σ good)
       loop-good d false c b hc kc σ good = record { good = good; grow = grow-refl g σ; still = still-refl g n σ; done = λ e. absurd (false≢true e) }
 
       walked : (w : Want) (σ : State) → Good g len σ

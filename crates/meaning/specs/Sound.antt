@@ -3,12 +3,13 @@ use mathlib.Core.Path.{_≡_, refl, sym, _∙_, ap, subst}
 use mathlib.Core.Bool.{Bool, true, false}
 use mathlib.Core.List.{[], _∷_}
 use mathlib.Core.Logic.{inl, inr}
-use Prim.Native.Nat.{ℕ, zero, suc, _+_, _*_, _-_, _<_, _≤_, min}
+use Prim.Native.Nat.{ℕ, zero, suc, _+_, _*_, _<_, _≤_}
 use native.Mathlib.Decide.{decLe}
 use native.Mathlib.Omega.{arith}
 use lib.IntN.{ℤ, pos, negℤ}
 use lib.Dec.{ltb}
 use borrow.Author.Tests.{ltb-true}
+use Rattle.facts.specs.Ranges.{Split, split-some}
 use Rattle.meaning.specs.Base.{Nz, litv, AtPrev, Sat, prev, keep, pass-prev, pass-keep, nz-pos, neg-true, lit-neg, in-sat}
 use Rattle.meaning.specs.Table.{Kind, leaf, dummy, unit, general, Dir, If, OnlyIf, Tab, Marks, litOf, lit, doneOf, Done, keyAt, NotGeneral, IfPair, ifOf, onlyOf, UnitOk, GeneralOk, NodeOk, Shape, bit, ValueOf, Values, History, Marked, Inv, AllSat}
 
@@ -126,10 +127,10 @@ module _ (t : Tab) (shape : Shape t) (b : ℤ → Bool) (w : ℕ → ℕ) (vals 
       let bl = bound l sl (o .left-kind) in
       let br = bound r sr (o .right-kind) in
       let ek = o .key-is j hj in
-      let x : ℕ = min (w l) (suc j) in
-      let y : ℕ = suc j - x in
-      let hx : x ≤ w l = omega arith in
-      let hy : y ≤ w r = omega arith in
+      let (x, y, sp, low, high) = split-some (w l) (w r) 0 0 (suc j) (omega arith) (omega arith) (omega arith) (omega arith) in
+      let hx : x ≤ w l = sp .left in
+      let hy : y ≤ w r = sp .right in
+      let e = sp .sum in
       let ex : keyAt t l x ≡ x = key-small t l (t .node l .kind) (shape l sl) (o .left-kind) x (omega arith) in
       let ey : keyAt t r y ≡ y = key-small t r (t .node r .kind) (shape r sr) (o .right-kind) y (omega arith) in (
         x,
@@ -228,13 +229,8 @@ module _ (t : Tab) (m : Marks) (h : History) (inv : Inv t m h) (α : ℕ → Boo
       let br = bound t (inv .shape) (litv α) w vals r sr (o .right-kind) in
       let ek = o .key-is j hj in
       let ec = o .count-is in
-      let x : ℕ = min cl (j - w r) in
-      let y : ℕ = j - x in
-      let hx : x ≤ cl = omega arith in
-      let hy : y ≤ cr = omega arith in
-      let lx : w l ≤ x = omega arith in
-      let ly : w r ≤ y = omega arith in
-      let c = mk .closed .1 x y (record { hx = hx; hy = hy; sum = omega arith }) in
+      let (x, y, sp, lx, ly) = split-some cl cr (w l) (w r) j bl br (omega arith) (omega arith) in
+      let c = mk .closed .1 x y (record { hx = sp .left; hy = sp .right; sum = sp .sum }) in
       let a = in-sat α (onlyOf t n j x y) h sat (c .there) in
       let b = pass-keep α (lit t l x) (keep (ltb y cr) (lit t r y) (negℤ (pos (t .held n j)) ∷ [])) (ltb x cl)
       (λ eb et. child l sl (o .left-kind) x (ltb-true x cl eb) lx (ih l (o .hl) sl x (ltb-true x cl eb) (c .ldone (ltb-true x cl eb)) et)) a in

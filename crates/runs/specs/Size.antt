@@ -10,7 +10,7 @@ use Rattle.paper.specs.Span.{over}
 use Rattle.paper.specs.Plain.{emitIf, emitOnly, emitBoth, ifClause, onlyClause}
 use Rattle.paper.specs.declared.Clause.{Clause}
 use Rattle.paper.specs.declared.Want.{Want}
-use Rattle.count.proofs.Ranges.{ifOwn, onlyOwn, if-turns, only-turns}
+use Rattle.facts.specs.Ranges.{ifOwn, onlyOwn, if-turns, only-turns}
 
 -- a sink that counts clauses
 abbrev pub tick : ℕ → Clause → ℕ

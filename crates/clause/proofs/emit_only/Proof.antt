@@ -1,4 +1,5 @@
 use Rattle.clause.proofs.Laws.{only-is}
+use Rattle.facts.specs.Ranges.{loop-low, loop-split, split-below}
 use borrow.Author.Needs.{needs}
 use mathlib.Core.Path.{_≡_, refl, sym, ap, ap₂, _∙_}
 use mathlib.Core.List.{List, []}
@@ -38,7 +39,7 @@ min-requires c κs = tt
 
 -- src/lib.rt:105:16
 sub-from : tie.Need-sub-from Inv-loop μ-loop
-sub-from c = omega arith
+sub-from c = loop-low (length (c .before .args .right .now)) (c .before .args .i) (c .min .result) (c .min .ensures)
 
 -- src/lib.rt:106:15
 min-requires-2 : tie.Need-min-requires-2 Inv-loop μ-loop
@@ -46,7 +47,9 @@ min-requires-2 c κs = tt
 
 -- src/lib.rt:106:15
 add-end : tie.Need-add-end Inv-loop μ-loop
-add-end c = omega arith
+add-end c =
+    let s = c .before .before in
+    omega (arith, loop-low (length (s .args .left .now)) (s .args .i) (c .min2 .result) (c .min2 .ensures))
 
 -- src/lib.rt:109:5
 loop-holds : tie.Need-loop-holds Inv-loop μ-loop
@@ -54,13 +57,17 @@ loop-holds c = (omega arith, refl, omega arith, refl)
 
 -- src/lib.rt:110:45
 sub-only-clause : tie.Need-sub-only-clause Inv-loop μ-loop
-sub-only-clause c = omega arith
+sub-only-clause c =
+    let s = c .before .before .before .before in
+    let at = loop-split (length (s .args .left .now)) (length (s .args .right .now)) (s .args .i) _ _ (c .before .loop .x) (c .before .before .before .min .ensures) (c .before .before .min2 .ensures) (c .before .loop .inv .0) (c .loop-test .taken) in
+    split-below _ _ _ _ _ at
 
 -- src/lib.rt:110:13
 only-clause-requires : tie.Need-only-clause-requires Inv-loop μ-loop
 only-clause-requires c κs =
     let s = c .before .before .before .before in
-    (((omega arith), (omega arith)), rw (toZ-ofZ (s .fits .o)) (s .pre .1))
+    let at = loop-split (length (s .args .left .now)) (length (s .args .right .now)) (s .args .i) _ _ (c .before .loop .x) (c .before .before .before .min .ensures) (c .before .before .min2 .ensures) (c .before .loop .inv .0) (c .loop-test .taken) in
+    ((at .left, at .right), rw (toZ-ofZ (s .fits .o)) (s .pre .1))
 
 -- src/lib.rt:111:9
 append-requires : tie.Need-append-requires Inv-loop μ-loop

@@ -1,6 +1,7 @@
 use Rattle.paper.specs.Plain.{ifSpan}
-use native.Mathlib.Omega.{arith}
-use Rattle.count.proofs.Ranges.{span-eq}
+use mathlib.Core.Path.{sym, ap, _∙_}
+use Prim.Native.Nat.{ℕ, _+_, _-_}
+use Rattle.facts.specs.Ranges.{loop-low, span-eq}
 use borrow.Author.Needs.{needs}
 use Rattle.count.proofs.if_span.Statement.{statement}
 use Rattle.count.proofs.if_span.Tie as tie
@@ -19,7 +20,7 @@ min-requires c κs = search needs
 
 -- src/lib.rt:151:13
 sub-x : tie.Need-sub-x
-sub-x c = search needs
+sub-x c = loop-low (c .before .args .b) (c .before .args .i + 1) (c .min .result) (c .min .ensures)
 
 -- src/lib.rt:152:21
 add-min-2 : tie.Need-add-min-2
@@ -32,7 +33,9 @@ min-requires-2 c κs = search needs
 -- src/lib.rt:154:9
 returns : tie.Need-returns
 unfolding ifSpan
-returns c = span-eq (omega arith) (omega arith)
+returns c =
+    let s = c .before .before .before in
+    span-eq (ap (λ (n : ℕ). n - 1) (sym (c .if1 .taken) ∙ ap (λ (m : ℕ). s .args .i + 1 - m) (c .before .before .min .ensures))) (c .before .min2 .ensures)
 
 -- src/lib.rt:156:18
 sub-t8 : tie.Need-sub-t8

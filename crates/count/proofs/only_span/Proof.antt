@@ -1,6 +1,5 @@
 use Rattle.paper.specs.Plain.{onlySpan}
-use native.Mathlib.Omega.{arith}
-use Rattle.count.proofs.Ranges.{span-eq}
+use Rattle.facts.specs.Ranges.{loop-low, span-eq}
 use borrow.Author.Needs.{needs}
 use Rattle.count.proofs.only_span.Statement.{statement}
 use Rattle.count.proofs.only_span.Tie as tie
@@ -11,7 +10,7 @@ min-requires c κs = search needs
 
 -- src/lib.rt:163:16
 sub-from : tie.Need-sub-from
-sub-from c = search needs
+sub-from c = loop-low (c .before .args .b) (c .before .args .i) (c .min .result) (c .min .ensures)
 
 -- src/lib.rt:164:21
 add-min : tie.Need-add-min
@@ -24,7 +23,7 @@ min-requires-2 c κs = search needs
 -- src/lib.rt:159:1
 returns : tie.Need-returns
 unfolding onlySpan
-returns c = span-eq (omega arith) (omega arith)
+returns c = span-eq (cc) (cc)
 
 pub only-span-spec : {M : Type 1} → statement M
 only-span-spec = tie.close (tie.spec min-requires sub-from add-min min-requires-2 returns)
