@@ -64,20 +64,11 @@ fn run_twice(
         (now (lits .entry)) (now (marks .entry)) (now (clauses .entry)) r (now (lits .exit)) (now (marks .exit)) (now (clauses .exit)) ⌝ }
 {
     let len = clauses.len();
-    let dry = define_unweighted_rec(
-        nodes,
-        inputs,
-        ints,
-        bytes,
-        clauses,
-        id,
-        i,
-        want,
-        Run {
-            next: 1,
-            words: len,
-        },
-    );
+    let full = Run {
+        next: 1,
+        words: len,
+    };
+    let dry = define_unweighted_rec(nodes, inputs, ints, bytes, clauses, id, i, want, full);
     let vars = dry.next - 1;
     let words = dry.words - len;
     if c.last + 1 < c.next + vars {
@@ -86,29 +77,20 @@ fn run_twice(
     if len < c.words + words {
         return Demanded::NotGiven(Refusal::ClausesShort);
     }
-    let run = define_unweighted_rec(
-        nodes,
-        inputs,
-        lits,
-        marks,
-        clauses,
-        id,
-        i,
-        want,
-        Run {
-            next: c.next,
-            words: c.words,
-        },
-    );
+    let run = Run {
+        next: c.next,
+        words: c.words,
+    };
+    let ran = define_unweighted_rec(nodes, inputs, lits, marks, clauses, id, i, want, run);
     let lit = literal_at(nodes, inputs, lits, id, i);
     let after = Counters {
         first: c.first,
-        next: run.next,
+        next: ran.next,
         last: c.last,
         nodes: c.nodes,
         inputs: c.inputs,
         cells: c.cells,
-        words: run.words,
+        words: ran.words,
     };
     Demanded::Given(lit, after)
 }
