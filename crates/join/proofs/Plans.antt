@@ -14,9 +14,8 @@ use Rattle.paper.specs.Below.{all-at, ands5, side}
 use Rattle.paper.specs.Rows.{nodeAt, conLen, valueCount}
 use Rattle.paper.specs.declared.Node.{Node}
 use Rattle.paper.specs.declared.Counters.{Counters}
-use Rattle.keys.specs.Least.{Under}
 use Rattle.paper.specs.Keys.{nodeKeys}
-use Rattle.facts.specs.Facts.{TableFacts, table-facts, node-under}
+use Rattle.facts.specs.Facts.{Under, TableFacts, table-facts, node-under}
 use Rattle.grow.specs.Small.{Small}
 use Rattle.paper.specs.Grow.{roomForNode}
 use Rattle.grow.proofs.Choose.{room-facts}

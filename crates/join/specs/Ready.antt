@@ -8,7 +8,7 @@ use Rattle.paper.specs.Limits.{cellLimit, mulLimit}
 use Rattle.paper.specs.Rows.{nodeAt, isUnit}
 use Rattle.paper.specs.Keys.{nodeKeys}
 use Rattle.paper.specs.declared.Node.{Node}
-use Rattle.keys.specs.Least.{Under}
+use Rattle.facts.specs.Facts.{Under}
 
 pub record RowReady (nodes keys : List ℕ) (n : Node) : Type 0 where
   pub row : n .first + n .count ≤ length keys

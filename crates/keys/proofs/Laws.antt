@@ -17,7 +17,9 @@ use Rattle.paper.specs.Rows.{wordFrom, conLen, conVal, valueAt}
 use Rattle.paper.specs.Limits.{mulLimit, keyLimit}
 use Rattle.paper.specs.declared.Node.{Node}
 use Rattle.paper.specs.Keys.{nodeKeys, put, putAll, keysOf}
-use Rattle.keys.specs.Least.{Under, Mono, lastOf, pickedAt, none, pickOf, leastAll, leastSum, firstFrom, startAt, Cut}
+use Rattle.facts.specs.Facts.{Under}
+use Rattle.facts.specs.Members.{three, put-less, put-same, put-more, value-same}
+use Rattle.keys.specs.Least.{Mono, lastOf, pickedAt, none, pickOf, leastAll, leastSum, firstFrom, startAt, Cut}
 
 -- ascending, from lo up to below hi
 abbrev pub Between : ℕ → ℕ → List ℕ → Type 0
@@ -34,18 +36,6 @@ pick-high a x b h = rw (le-ltb x b h, and-false)
 pick-it : (a x b : ℕ) → a ≤ x → x < b → pickOf a x b ≡ x
 pick-it a x b h g = rw (le-leb a x h, lt-ltb x b g)
 
-pub put-less : (x y : ℕ) (ys : List ℕ) → x < y → put x (y ∷ ys) ≡ x ∷ y ∷ ys
-unfolding put
-put-less x y ys h = rw (lt-ltb x y h)
-
-pub put-same : (x y : ℕ) (ys : List ℕ) → x ≡ y → put x (y ∷ ys) ≡ y ∷ ys
-unfolding put
-put-same x y ys h = rw (le-ltb x y (omega arith), eq-eqb x y h)
-
-pub put-more : (x y : ℕ) (ys : List ℕ) → y < x → put x (y ∷ ys) ≡ y ∷ put x ys
-unfolding put
-put-more x y ys h = rw (le-ltb x y (omega arith), ne-eqb x y (λ e. omega arith))
-
 from-hit : (a y : ℕ) (ys : List ℕ) → a ≤ y → firstFrom a (y ∷ ys) ≡ y
 unfolding firstFrom
 from-hit a y ys h = rw (le-leb a y h)
@@ -53,10 +43,6 @@ from-hit a y ys h = rw (le-leb a y h)
 from-miss : (a y : ℕ) (ys : List ℕ) → y < a → firstFrom a (y ∷ ys) ≡ firstFrom a ys
 unfolding firstFrom
 from-miss a y ys h = rw (lt-leb a y h)
-
--- three ways for two numbers
-pub three : {G : Type 0} (x y : ℕ) → (x < y → G) → (x ≡ y → G) → (y < x → G) → G
-three x y less same more = ⊎-elim less (λ (g : y ≤ x). ⊎-elim more (λ (k : x ≤ y). same (omega arith)) (side y x)) (side x y)
 
 -- the first at least a of a list with x put in: the better of x and the first before
 first-put : (a x : ℕ) (s : List ℕ) → x < none → firstFrom a (put x s) ≡ pickOf a x (firstFrom a s)
@@ -232,42 +218,13 @@ none-ends s i b e = ⊎-elim (λ l. absurd (let k : getD s i none < none = key-b
 pub some-goes : (s : List ℕ) (i : ℕ) → (getD s i none ≡ none → ⊥) → i < length s
 some-goes s i h = ⊎-elim (λ l. l) (λ g. absurd (h (past s i none g))) (side i (length s))
 
--- the keys see only the values below the counts
-all-put-cong : (n : ℕ) (f g : ℕ → ℕ) (s : List ℕ) → ((j : ℕ) → j < n → f j ≡ g j) → putAll n f s ≡ putAll n g s
-unfolding putAll
-all-put-cong zero f g s h = refl
-all-put-cong (suc n) f g s h = ap₂ put (h n (omega arith)) (all-put-cong n f g s (λ j l. h j (omega arith)))
-
-pub keys-cong : (nl : ℕ) (l l' : ℕ → ℕ) (nr : ℕ) (r r' : ℕ → ℕ) → ((i : ℕ) → i < nl → l i ≡ l' i) → ((j : ℕ) → j < nr → r j ≡ r' j)
-    → keysOf nl l nr r ≡ keysOf nl l' nr r'
-unfolding keysOf
-keys-cong zero l l' nr r r' hl hr = all-put-cong nr r r' [] hr
-keys-cong (suc i) l l' nr r r' hl hr =
-    all-put-cong nr (λ j. l i + r j) (λ j. l' i + r' j) _ (λ j k. ap₂ (λ (x : ℕ) (y : ℕ). x + y) (hl i (omega arith)) (hr j k))
-    ∙ ap (putAll nr (λ j. l' i + r' j)) (ap₂ put (hl i (omega arith)) (keys-cong i l l' nr r r' (λ k p. hl k (omega arith)) hr))
-
-value-same : (d e : List ℕ) (n : Node) (at i : ℕ) → ((k : ℕ) → k < at → getD d k 0 ≡ getD e k 0) → Under n at → i < conLen n → valueAt d n i ≡ valueAt e n i
-unfolding valueAt
-value-same d e n at i h u l = go (eqb (n .kind) 0) refl
-  where
-    go : (t : Bool) → eqb (n .kind) 0 ≡ t → cond t 1 (wordFrom d (n .first) i) ≡ cond t 1 (wordFrom e (n .first) i)
-    go true q = refl
-    go false q = h (n .first + i) (let g : n .first + conLen n ≤ at = u q in omega arith)
-
--- .. and values that do not fall there do not fall here
+-- two rows that agree below a place: values that do not fall in the one do not fall in the other
 pub mono-same : (d e : List ℕ) (n : Node) (at : ℕ) → ((k : ℕ) → k < at → getD d k 0 ≡ getD e k 0) → Under n at → Mono (conLen n) (λ k. valueAt e n k)
     → Mono (conLen n) (λ k. valueAt d n k)
 mono-same d e n at h u m i k l g =
     let p : valueAt d n i ≡ valueAt e n i = value-same d e n at i h u (omega arith) in
     let q : valueAt d n k ≡ valueAt e n k = value-same d e n at k h u g in
     omega (arith, m i k l g)
-
--- two rows that agree below a place have the same keys of nodes that lie below it
-pub node-same : (d e : List ℕ) (l : Node) (lm : ℕ) (r : Node) (rm at : ℕ) → ((k : ℕ) → k < at → getD d k 0 ≡ getD e k 0) → Under l at → Under r at
-    → nodeKeys d l lm r rm ≡ nodeKeys e l lm r rm
-node-same d e l lm r rm at h ul ur =
-    keys-cong (conLen l) _ _ (conLen r) _ _
-    (λ i k. ap (λ (v : ℕ). lm * v) (value-same d e l at i h ul k)) (λ j k. ap (λ (v : ℕ). rm * v) (value-same d e r at j h ur k))
 
 -- below a paste, and its length
 pub paste-below : (d : List ℕ) (at : ℕ) (s : List ℕ) (n k : ℕ) → at ≤ length d → k < at → getD (paste d at s n) k 0 ≡ getD d k 0

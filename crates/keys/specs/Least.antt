@@ -1,16 +1,12 @@
 -- What the code computes, on the way to a general node's keys: the least of L, R and the sums that is at least a.
 use Prim.Native.Nat.{ℕ, zero, suc, _+_, _≤_, _<_}
 use mathlib.Core.List.{List, [], _∷_}
-use mathlib.Core.Bool.{false, cond, _&&_}
+use mathlib.Core.Bool.{cond, _&&_}
 use mathlib.Core.Path.{_≡_}
 use lib.ListN.{getD}
 use lib.Dec.{leb, ltb}
-use Rattle.paper.specs.Rows.{isLeaf, conLen, conVal}
+use Rattle.paper.specs.Rows.{conLen, conVal}
 use Rattle.paper.specs.declared.Node.{Node}
-
--- the cells of a node, if it is no leaf, lie below a place
-abbrev pub Under : Node → ℕ → Type 0
-Under n at = isLeaf n ≡ false → n .first + conLen n ≤ at
 
 -- no number at least a: above every sum of two products of a multiplier and a word
 abbrev pub none : ℕ

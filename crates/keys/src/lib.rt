@@ -10,7 +10,8 @@ ghost use lib.Seq.{paste};
 ghost use Rattle.paper.specs.Limits.{mulLimit};
 ghost use Rattle.paper.specs.Rows.{conLen, conVal, valueAt};
 ghost use Rattle.paper.specs.Keys.{nodeKeys, rowIs};
-ghost use Rattle.keys.specs.Least.{pickOf, leastAll, firstFrom, Under, Mono, Cut, pickedAt, largestOf};
+ghost use Rattle.facts.specs.Facts.{Under};
+ghost use Rattle.keys.specs.Least.{pickOf, leastAll, firstFrom, Mono, Cut, pickedAt, largestOf};
 
 // Above every sum of two products of a multiplier and a word.
 const NONE: usize = 4611686018427387904;
