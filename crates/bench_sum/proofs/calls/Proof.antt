@@ -1,0 +1,71 @@
+use mathlib.Core.Path.{_≡_, refl, sym, ap, _∙_}
+use Prim.Native.Nat.{ℕ, _+_, _-_, _/_, _≤_, _<_, _^_}
+use native.Mathlib.Omega.{arith}
+use lib.ListN.{length}
+use borrow.Author.Needs.{needs}
+use Rattle.bench_sum.proofs.calls.Statement.{statement}
+use Rattle.bench_sum.proofs.calls.Tie as tie
+use Rattle.bench_sum.proofs.calls.Reads as reads
+use Rattle.bench_sum.proofs.calls.Lts as lts
+use Rattle.bench_sum.proofs.call.Reads as call-reads
+use Rattle.bench_sum.proofs.cell.Reads as cell-reads
+use Rattle.bench_sum.proofs.put_mark.Reads as put-mark-reads
+use Rattle.bench_sum.proofs.with_words.Reads as with-words-reads
+
+abbrev Inv-loop : tie.InvT-loop
+Inv-loop nodes inputs keys lits₀ marks₀ clauses₀ ints₀ bytes₀ c id v n at now₀ i₀ lits marks clauses ints bytes now i = n < 18446744073709551616
+
+abbrev μ-loop : tie.MeasureT-loop
+μ-loop nodes inputs keys lits₀ marks₀ clauses₀ ints₀ bytes₀ c id v n at now₀ i₀ lits marks clauses ints bytes now i = n - i
+
+-- src/main.rt:202:9
+cell-requires : tie.Need-cell-requires Inv-loop μ-loop
+cell-requires c κs = search needs
+
+-- src/main.rt:205:5
+loop-holds : tie.Need-loop-holds Inv-loop μ-loop
+loop-holds c = omega arith
+
+-- src/main.rt:206:9
+put-mark-requires : tie.Need-put-mark-requires Inv-loop μ-loop
+put-mark-requires c κs = search needs
+
+-- src/main.rt:207:13
+with-words-requires : tie.Need-with-words-requires Inv-loop μ-loop
+with-words-requires c κs = search needs
+
+-- src/main.rt:208:9
+call-requires : tie.Need-call-requires Inv-loop μ-loop
+call-requires c κs = search needs
+
+-- src/main.rt:221:9
+add-i : tie.Need-add-i Inv-loop μ-loop
+add-i c = omega arith
+
+-- src/main.rt:205:5
+loop-less : tie.Need-loop-less Inv-loop μ-loop
+loop-less c = omega arith
+
+-- src/main.rt:205:5
+loop-again : tie.Need-loop-again Inv-loop μ-loop
+loop-again c = omega arith
+
+-- src/main.rt:188:1
+returns : tie.Need-returns Inv-loop μ-loop
+returns c = search needs
+
+pub calls-spec : {M : Type 1} → statement M
+calls-spec =
+    tie.close
+    (tie.spec
+    Inv-loop
+    μ-loop
+    cell-requires
+    loop-holds
+    put-mark-requires
+    with-words-requires
+    call-requires
+    add-i
+    loop-less
+    loop-again
+    returns)

@@ -1,0 +1,76 @@
+use mathlib.Core.Path.{_≡_, refl, sym, ap, _∙_}
+use Prim.Native.Nat.{ℕ, _+_, _-_, _/_, _≤_, _<_, _^_}
+use native.Mathlib.Omega.{arith}
+use lib.ListN.{length}
+use borrow.Author.Needs.{needs}
+use Rattle.bench_sum.proofs.checks.Statement.{statement}
+use Rattle.bench_sum.proofs.checks.Tie as tie
+use Rattle.bench_sum.proofs.checks.Reads as reads
+use Rattle.bench_sum.proofs.checks.Lts as lts
+use Rattle.bench_sum.proofs.bit.Reads as bit-reads
+use Rattle.bench_sum.proofs.one.Reads as one-reads
+use Rattle.bench_sum.proofs.put_mark.Reads as put-mark-reads
+use Rattle.table.proofs.table_ok.Reads as table-ok-reads
+
+abbrev Inv-loop : tie.InvT-loop
+Inv-loop nodes inputs keys lits marks₀ c n ok₀ i₀ marks ok i = (i ≤ n) × (ok ≤ i) × (n < 18446744073709551616)
+
+abbrev μ-loop : tie.MeasureT-loop
+μ-loop nodes inputs keys lits marks₀ c n ok₀ i₀ marks ok i = n - i
+
+-- src/main.rt:366:5
+loop-holds : tie.Need-loop-holds Inv-loop μ-loop
+loop-holds c = omega arith
+
+-- src/main.rt:367:31
+bit-requires : tie.Need-bit-requires Inv-loop μ-loop
+bit-requires c κs = search needs
+
+-- src/main.rt:367:9
+put-mark-requires : tie.Need-put-mark-requires Inv-loop μ-loop
+put-mark-requires c κs = search needs
+
+-- src/main.rt:368:23
+table-ok-requires : tie.Need-table-ok-requires Inv-loop μ-loop
+table-ok-requires c κs = search needs
+
+-- src/main.rt:368:19
+one-requires : tie.Need-one-requires Inv-loop μ-loop
+one-requires c κs = search needs
+
+-- src/main.rt:368:14
+add-ok : tie.Need-add-ok Inv-loop μ-loop
+add-ok c = omega arith
+
+-- src/main.rt:369:9
+add-i : tie.Need-add-i Inv-loop μ-loop
+add-i c = omega arith
+
+-- src/main.rt:366:5
+loop-less : tie.Need-loop-less Inv-loop μ-loop
+loop-less c = omega arith
+
+-- src/main.rt:366:5
+loop-again : tie.Need-loop-again Inv-loop μ-loop
+loop-again c = omega arith
+
+-- src/main.rt:355:1
+returns : tie.Need-returns Inv-loop μ-loop
+returns c = search needs
+
+pub checks-spec : {M : Type 1} → statement M
+checks-spec =
+    tie.close
+    (tie.spec
+    Inv-loop
+    μ-loop
+    loop-holds
+    bit-requires
+    put-mark-requires
+    table-ok-requires
+    one-requires
+    add-ok
+    add-i
+    loop-less
+    loop-again
+    returns)
