@@ -3,7 +3,7 @@
  *
  * Link with target/staticlib/libtotdb.a, which `rt staticlib totdb` makes (x86-64 Linux). The library keeps nothing of its
  * own: no heap, no globals, no threads. Every call works on rows that the caller lends, and is proved to do what
- * document 01 says for any content of these rows; see crates/totdb/src/foreign.rt for the contracts.
+ * document 01 says for any content of these rows; see crates/totdb/src/lib.rt for the contracts.
  *
  * ROWS. Each is a pointer and a length in elements.
  *

@@ -20,7 +20,7 @@ fn value_said(
     let n = plans::bits_of(digits, bits);
     let assign = plans_rows::front_bytes(bits, n);
     plans::valued_said(
-        totdb::value(
+        door::value(
             nodes,
             inputs,
             keys,
@@ -49,31 +49,28 @@ fn grown(
     k: Command,
 ) -> Said {
     match k {
-        Command::Fresh(first, last) => plans::begun_said(totdb::fresh(first, last), c),
+        Command::Fresh(first, last) => plans::begun_said(door::fresh(first, last), c),
         Command::Leaf(x) => plans::added_said(
-            totdb::leaf(nodes, inputs, keys, lits, marks, clauses, c, x),
+            door::leaf(nodes, inputs, keys, lits, marks, clauses, c, x),
             c,
         ),
         Command::Dummy => plans::added_said(
-            totdb::dummy(nodes, inputs, keys, lits, marks, clauses, c),
+            door::dummy(nodes, inputs, keys, lits, marks, clauses, c),
             c,
         ),
         Command::Join(j) => plans::added_said(
-            totdb::inner(nodes, inputs, keys, lits, marks, clauses, c, j),
+            door::inner(nodes, inputs, keys, lits, marks, clauses, c, j),
             c,
         ),
         Command::Reset => plans::kept_said(
-            totdb::reset(nodes, inputs, keys, lits, marks, clauses, c),
+            door::reset(nodes, inputs, keys, lits, marks, clauses, c),
             c,
         ),
         Command::Clear => plans::kept_said(
-            totdb::empty_clauses(nodes, inputs, keys, lits, marks, clauses, c),
+            door::empty_clauses(nodes, inputs, keys, lits, marks, clauses, c),
             c,
         ),
-        _ => plans::checked_said(
-            totdb::check(nodes, inputs, keys, lits, marks, clauses, c),
-            c,
-        ),
+        _ => plans::checked_said(door::check(nodes, inputs, keys, lits, marks, clauses, c), c),
     }
 }
 
@@ -94,7 +91,7 @@ pub fn called(
 ) -> Said {
     match k {
         Command::Count(id, i, d) => plans::demanded_said(
-            totdb::define_unweighted(
+            door::define_unweighted(
                 nodes,
                 inputs,
                 keys,
@@ -111,7 +108,7 @@ pub fn called(
             c,
         ),
         Command::Sum(id, v) => plans::demanded_said(
-            totdb::define_weighted(
+            door::define_weighted(
                 nodes,
                 inputs,
                 keys,
@@ -127,7 +124,7 @@ pub fn called(
             c,
         ),
         Command::Reserve(id) => plans::kept_said(
-            totdb::reserve_vars(
+            door::reserve_vars(
                 nodes,
                 inputs,
                 keys,

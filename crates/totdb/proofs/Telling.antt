@@ -1,101 +1,24 @@
 -- The calls for other languages: from what the door promises to what they tell.
 use Prim.Native.Nat.{ℕ}
-use mathlib.Core.Path.{_≡_, refl, sym, ap, subst, _∙_}
+use mathlib.Core.Path.{_≡_, sym, ap, subst, _∙_}
 use mathlib.Core.Bool.{Bool, true, false, cond}
 use mathlib.Core.List.{List}
 use lib.IntN.{ℤ, pos}
-use lib.Dec.{eqb}
-use borrow.Author.Tests.{ne-eqb}
 use Rattle.paper.specs.Grow.{freshOf}
-use Rattle.paper.specs.Numbers.{Said, numberOf, done, refused, begunSaid, addedSaid, demandedSaid, keptSaid, valuedSaid}
+use Rattle.paper.specs.Numbers.{Said, done, refused, begunSaid, addedSaid, demandedSaid, keptSaid, valuedSaid}
 use Rattle.paper.specs.Calls.{Db, Work, checked, checkCall, freshStep, leafCall, dummyCall, innerCall, unweightedCall, weightedCall, reserveCall, valueCall, resetCall, emptyCall}
-use Rattle.totdb.specs.Door.{
-  db,
-  saying,
-  numbersOf,
-  semanticsOf,
-  valueResult,
-  emptyResult,
-  LeafMet,
-  DummyMet,
-  InnerMet,
-  UnweightedMet,
-  WeightedMet,
-  ReserveMet,
-  ResetMet,
-  Told,
-  ValueTold,
-  WorthTold,
-  LeafTold,
-  DummyTold,
-  InnerTold,
-  DemandTold,
-  ReserveTold,
-  ResetTold,
-}
+use Rattle.door.specs.Door.{db, saying, valueResult, emptyResult, LeafMet, DummyMet, InnerMet, UnweightedMet, WeightedMet, ReserveMet, ResetMet}
+use Rattle.tell.specs.Tell.{Told, ValueTold, WorthTold}
+use Rattle.totdb.specs.Foreign.{LeafTold, DummyTold, InnerTold, DemandTold, ReserveTold, ResetTold}
 use Rattle.paper.specs.declared.Counters.{Counters}
 use Rattle.paper.specs.declared.Pair.{Pair}
 use Rattle.paper.specs.declared.Semantics.{Semantics}
-use Rattle.paper.specs.declared.Semantics.the-variants.{If, OnlyIf, IfAndOnlyIf}
-use Rattle.paper.specs.declared.Refusal.{Refusal}
 use Rattle.paper.specs.declared.Refusal.the-variants.{TableFails}
 use Rattle.paper.specs.declared.Begun.{Begun}
-use Rattle.paper.specs.declared.Begun.the-variants.{Made, NotMade}
 use Rattle.paper.specs.declared.Added.{Added}
-use Rattle.paper.specs.declared.Added.the-variants.{Done, Refused}
 use Rattle.paper.specs.declared.Demanded.{Demanded}
-use Rattle.paper.specs.declared.Demanded.the-variants.{Given, NotGiven}
 use Rattle.paper.specs.declared.Kept.{Kept}
-use Rattle.paper.specs.declared.Kept.the-variants.{Did, DidNot}
 use Rattle.paper.specs.declared.Valued.{Valued}
-use Rattle.paper.specs.declared.Valued.the-variants.{Worth, NotValued}
-
--- ---- what a demand asks for, by its number
-
-pub asks-if : (n : ℕ) → n ≡ 1 → If ≡ semanticsOf n
-unfolding semanticsOf
-asks-if n e = ap semanticsOf (sym e)
-
-pub asks-only : (n : ℕ) → n ≡ 2 → OnlyIf ≡ semanticsOf n
-unfolding semanticsOf
-asks-only n e = ap semanticsOf (sym e)
-
-pub asks-both : (n : ℕ) → (n ≡ 1 → ⊥) → (n ≡ 2 → ⊥) → IfAndOnlyIf ≡ semanticsOf n
-unfolding semanticsOf
-asks-both n p q = rw (ne-eqb n 1 p, ne-eqb n 2 q)
-
--- ---- an answer, told: done, or refused
-
-pub begun-done : (s : Begun) (a c : Counters) (k : List ℕ) → s ≡ Made a → k ≡ numbersOf a → Told (begunSaid s c) 0 (pos 0) k
-begun-done s a c k e q = subst (λ (z : Begun). Told (begunSaid z c) 0 (pos 0) k) (sym e) (record { number-is = refl; value-is = refl; counters-are = q })
-
-pub begun-refused : (s : Begun) (why : Refusal) (c : Counters) (n : ℕ) (k : List ℕ) → s ≡ NotMade why → n ≡ numberOf why → k ≡ numbersOf c → Told (begunSaid s c) n (pos 0) k
-begun-refused s why c n k e p q = subst (λ (z : Begun). Told (begunSaid z c) n (pos 0) k) (sym e) (record { number-is = p; value-is = refl; counters-are = q })
-
-pub added-done : (s : Added) (id : ℕ) (a c : Counters) (k : List ℕ) → s ≡ Done id a → k ≡ numbersOf a → Told (addedSaid s c) 0 (pos id) k
-added-done s id a c k e q = subst (λ (z : Added). Told (addedSaid z c) 0 (pos id) k) (sym e) (record { number-is = refl; value-is = refl; counters-are = q })
-
-pub added-refused : (s : Added) (why : Refusal) (c : Counters) (n : ℕ) (k : List ℕ) → s ≡ Refused why → n ≡ numberOf why → k ≡ numbersOf c → Told (addedSaid s c) n (pos 0) k
-added-refused s why c n k e p q = subst (λ (z : Added). Told (addedSaid z c) n (pos 0) k) (sym e) (record { number-is = p; value-is = refl; counters-are = q })
-
--- the literal goes through a local's bits
-pub demanded-done : (s : Demanded) (z v : ℤ) (a c : Counters) (k : List ℕ) → s ≡ Given z a → v ≡ z → k ≡ numbersOf a → Told (demandedSaid s c) 0 v k
-demanded-done s z v a c k e p q = subst (λ (w : Demanded). Told (demandedSaid w c) 0 v k) (sym e) (record { number-is = refl; value-is = p; counters-are = q })
-
-pub demanded-refused : (s : Demanded) (why : Refusal) (c : Counters) (n : ℕ) (k : List ℕ) → s ≡ NotGiven why → n ≡ numberOf why → k ≡ numbersOf c → Told (demandedSaid s c) n (pos 0) k
-demanded-refused s why c n k e p q = subst (λ (z : Demanded). Told (demandedSaid z c) n (pos 0) k) (sym e) (record { number-is = p; value-is = refl; counters-are = q })
-
-pub kept-done : (s : Kept) (a c : Counters) (k : List ℕ) → s ≡ Did a → k ≡ numbersOf a → Told (keptSaid s c) 0 (pos 0) k
-kept-done s a c k e q = subst (λ (z : Kept). Told (keptSaid z c) 0 (pos 0) k) (sym e) (record { number-is = refl; value-is = refl; counters-are = q })
-
-pub kept-refused : (s : Kept) (why : Refusal) (c : Counters) (n : ℕ) (k : List ℕ) → s ≡ DidNot why → n ≡ numberOf why → k ≡ numbersOf c → Told (keptSaid s c) n (pos 0) k
-kept-refused s why c n k e p q = subst (λ (z : Kept). Told (keptSaid z c) n (pos 0) k) (sym e) (record { number-is = p; value-is = refl; counters-are = q })
-
-pub valued-done : (s : Valued) (v : ℕ) → s ≡ Worth v → WorthTold s 0 (pos v)
-valued-done s v e c = subst (λ (z : Valued). ValueTold (valuedSaid z c) 0 (pos v)) (sym e) (record { number-is = refl; value-is = refl })
-
-pub valued-refused : (s : Valued) (why : Refusal) (n : ℕ) → s ≡ NotValued why → n ≡ numberOf why → WorthTold s n (pos 0)
-valued-refused s why n e p c = subst (λ (z : Valued). ValueTold (valuedSaid z c) n (pos 0)) (sym e) (record { number-is = p; value-is = refl })
 
 -- ---- a call, told. c' are the counters as they were read from the array, c those that it holds
 

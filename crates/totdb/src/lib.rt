@@ -1,99 +1,127 @@
-// The one crate that a caller names: every public call of document 01, each with its contract. A call asks nothing of its
-// caller: for any rows and numbers it says what it answers and what every row holds afterwards. Rows that are lent as `&`
-// stay as they are; of the working area (`ints`, `bytes`) nothing is promised, and no answer depends on what it held.
-pub use paper::Added;
-pub use paper::Begun;
-pub use paper::Counters;
-pub use paper::Demanded;
-pub use paper::Kept;
-pub use paper::Pair;
-pub use paper::Refusal;
-pub use paper::Semantics;
-pub use paper::Valued;
-// The table check once more, over a lent row of node records instead of the words: the same verdict (`words-same` of crate records).
-pub use records::Record;
-pub use records::check_records;
+// The calls for programs in other languages, on numbers and slices: `rt staticlib totdb` makes libtotdb.a of them. Each is the call of
+// crate door, and answers document 01's number; what is given back and the counters go through the last parameters. `counters` holds
+// first, next, last, nodes, inputs, cells, words. A refused call leaves the counters as they were, and gives back 0.
+use paper::Pair;
 ghost use mathlib.Core.Path.{_≡_};
-ghost use Rattle.paper.specs.Grow.{freshOf};
-ghost use Rattle.paper.specs.Calls.{checked};
-ghost use Rattle.totdb.specs.Door.{db, work, LeafMet, DummyMet, InnerMet, UnweightedMet, WeightedMet, ReserveMet, ResetMet, valueResult, emptyResult};
+ghost use lib.IntN.{pos};
+ghost use Rattle.paper.specs.Calls.{Db, checkCall, freshStep, unweightedCall, weightedCall, valueCall, emptyCall};
+ghost use Rattle.door.specs.Door.{db, work};
+ghost use Rattle.tell.specs.Tell.{countersOf, semanticsOf, Told, ValueTold};
+ghost use Rattle.totdb.specs.Foreign.{pairOf, LeafTold, DummyTold, InnerTold, DemandTold, ReserveTold, ResetTold};
 
-mod foreign;
-
-// The table check.
-pub fn check(
+// The table check: 0 or 2.
+#[no_mangle]
+pub extern "C" fn totdb_check(
     nodes: &[u32],
     inputs: &[i32],
     keys: &[u32],
     lits: &[i32],
     marks: &[u8],
     clauses: &[i32],
-    c: Counters,
-) -> bool
-    ensures { λ r. ⌜ r ≡ checked (db (now (nodes .entry)) (now (inputs .entry)) (now (keys .entry)) (now (lits .entry)) (now (marks .entry)) (now (clauses .entry)) c) ⌝ }
+    counters: &[usize; 7],
+) -> u32
+    ensures { λ r. ⌜ r ≡ checkCall (db (now (nodes .entry)) (now (inputs .entry)) (now (keys .entry)) (now (lits .entry)) (now (marks .entry)) (now (clauses .entry)) (countersOf (now (counters .entry)))) .said .number ⌝ }
 {
-    table::table_ok(nodes, inputs, keys, lits, marks, clauses.len(), c)
+    let c = tell::counters_of(counters);
+    if door::check(nodes, inputs, keys, lits, marks, clauses, c) {
+        0
+    } else {
+        2
+    }
 }
 
-// Begins a table: no nodes, no clauses, variables from `first` to `last`. 15.
-pub fn fresh(first: usize, last: usize) -> Begun
-    ensures { λ r. ⌜ r ≡ freshOf first last ⌝ }
+// Begins a table; what the counters held does not matter. 0 or 15.
+#[no_mangle]
+pub extern "C" fn totdb_fresh(counters: &mut [usize; 7], first: usize, last: usize) -> u32
+    ensures { λ r. ⌜ ((d : Db) → d .counters ≡ countersOf (now (counters .entry)) → Told (freshStep d first last .said) r (pos 0) (now (counters .exit))) ⌝ }
 {
-    grow::fresh(first, last)
+    let c = tell::counters_of(counters);
+    let said = door::fresh(first, last);
+    tell::say_begun(said, c, counters)
 }
 
-// Adds a leaf with the literal x, or answers with the lowest id of a leaf that has it. 2, 6, 11.
-pub fn leaf(
+// Gives the leaf's id. 2, 6, 11.
+#[no_mangle]
+pub extern "C" fn totdb_leaf(
     nodes: &mut [u32],
     inputs: &mut [i32],
     keys: &[u32],
     lits: &[i32],
     marks: &[u8],
     clauses: &[i32],
-    c: Counters,
+    counters: &mut [usize; 7],
     x: i32,
-) -> Added
-    ensures { λ r. ⌜ LeafMet (db (now (nodes .entry)) (now (inputs .entry)) (now (keys .entry)) (now (lits .entry)) (now (marks .entry)) (now (clauses .entry)) c) x
-        r (now (nodes .exit)) (now (inputs .exit)) ⌝ }
+    id: &mut usize,
+) -> u32
+    ensures { λ r. ⌜ LeafTold (db (now (nodes .entry)) (now (inputs .entry)) (now (keys .entry)) (now (lits .entry)) (now (marks .entry)) (now (clauses .entry)) (countersOf (now (counters .entry)))) x
+        r (now (id .exit)) (now (counters .exit)) (now (nodes .exit)) (now (inputs .exit)) ⌝ }
 {
-    grow::leaf(nodes, inputs, keys, lits, marks, clauses.len(), c, x)
+    let c = tell::counters_of(counters);
+    let said = door::leaf(nodes, inputs, keys, lits, marks, clauses, c, x);
+    tell::say_added(said, c, counters, id)
 }
 
-// Adds the dummy, or answers with its lowest id. 2, 11.
-pub fn dummy(
+// Gives the dummy's id. 2, 11.
+#[no_mangle]
+pub extern "C" fn totdb_dummy(
     nodes: &mut [u32],
     inputs: &[i32],
     keys: &[u32],
     lits: &[i32],
     marks: &[u8],
     clauses: &[i32],
-    c: Counters,
-) -> Added
-    ensures { λ r. ⌜ DummyMet (db (now (nodes .entry)) (now (inputs .entry)) (now (keys .entry)) (now (lits .entry)) (now (marks .entry)) (now (clauses .entry)) c)
-        r (now (nodes .exit)) ⌝ }
+    counters: &mut [usize; 7],
+    id: &mut usize,
+) -> u32
+    ensures { λ r. ⌜ DummyTold (db (now (nodes .entry)) (now (inputs .entry)) (now (keys .entry)) (now (lits .entry)) (now (marks .entry)) (now (clauses .entry)) (countersOf (now (counters .entry))))
+        r (now (id .exit)) (now (counters .exit)) (now (nodes .exit)) ⌝ }
 {
-    grow::dummy(nodes, inputs, keys, lits, marks, clauses.len(), c)
+    let c = tell::counters_of(counters);
+    let said = door::dummy(nodes, inputs, keys, lits, marks, clauses, c);
+    tell::say_added(said, c, counters, id)
 }
 
-// Adds an inner node over the two connections of j, with its cells. 2, 4, 7, 8, 9, 10, 11.
-pub fn inner(
+// Gives the new node's id. 2, 4, 7, 8, 9, 10, 11.
+#[no_mangle]
+pub extern "C" fn totdb_inner(
     nodes: &mut [u32],
     inputs: &[i32],
     keys: &mut [u32],
     lits: &mut [i32],
     marks: &mut [u8],
     clauses: &[i32],
-    c: Counters,
-    j: Pair,
-) -> Added
-    ensures { λ r. ⌜ InnerMet (db (now (nodes .entry)) (now (inputs .entry)) (now (keys .entry)) (now (lits .entry)) (now (marks .entry)) (now (clauses .entry)) c) j
-        r (now (nodes .exit)) (now (keys .exit)) (now (lits .exit)) (now (marks .exit)) ⌝ }
+    counters: &mut [usize; 7],
+    left: usize,
+    lmul: usize,
+    right: usize,
+    rmul: usize,
+    id: &mut usize,
+) -> u32
+    ensures { λ r. ⌜ InnerTold (db (now (nodes .entry)) (now (inputs .entry)) (now (keys .entry)) (now (lits .entry)) (now (marks .entry)) (now (clauses .entry)) (countersOf (now (counters .entry)))) (pairOf left lmul right rmul)
+        r (now (id .exit)) (now (counters .exit)) (now (nodes .exit)) (now (keys .exit)) (now (lits .exit)) (now (marks .exit)) ⌝ }
 {
-    join::inner(nodes, inputs, keys, lits, marks, clauses.len(), c, j)
+    let c = tell::counters_of(counters);
+    let said = door::inner(
+        nodes,
+        inputs,
+        keys,
+        lits,
+        marks,
+        clauses,
+        c,
+        Pair {
+            left,
+            lmul,
+            right,
+            rmul,
+        },
+    );
+    tell::say_added(said, c, counters, id)
 }
 
-// Demands output i of a leaf or unit: gives its literal, and appends the clauses that are missing for it. 2, 3, 4, 5, 1, 12, 13.
-pub fn define_unweighted(
+// Gives the output's literal. `demand` as `tell::semantics_of` has it. 2, 3, 4, 5, 1, 12, 13.
+#[no_mangle]
+pub extern "C" fn totdb_define_unweighted(
     nodes: &[u32],
     inputs: &[i32],
     keys: &[u32],
@@ -102,15 +130,18 @@ pub fn define_unweighted(
     clauses: &mut [i32],
     ints: &mut [i32],
     bytes: &mut [u8],
-    c: Counters,
+    counters: &mut [usize; 7],
     id: usize,
     i: usize,
-    semantics: Semantics,
-) -> Demanded
-    ensures { λ r. ⌜ UnweightedMet (db (now (nodes .entry)) (now (inputs .entry)) (now (keys .entry)) (now (lits .entry)) (now (marks .entry)) (now (clauses .entry)) c)
-        (work (now (ints .entry)) (now (bytes .entry))) id i semantics r (now (lits .exit)) (now (marks .exit)) (now (clauses .exit)) ⌝ }
+    demand: u32,
+    lit: &mut i32,
+) -> u32
+    ensures { λ r. ⌜ DemandTold (unweightedCall (db (now (nodes .entry)) (now (inputs .entry)) (now (keys .entry)) (now (lits .entry)) (now (marks .entry)) (now (clauses .entry)) (countersOf (now (counters .entry))))
+        (work (now (ints .entry)) (now (bytes .entry))) id i (semanticsOf demand)) r (now (lit .exit)) (now (counters .exit)) (now (lits .exit)) (now (marks .exit)) (now (clauses .exit)) ⌝ }
 {
-    counts::define_unweighted(
+    let c = tell::counters_of(counters);
+    let semantics = tell::semantics_of(demand);
+    let said = door::define_unweighted(
         nodes,
         inputs,
         keys,
@@ -123,11 +154,13 @@ pub fn define_unweighted(
         id,
         i,
         semantics,
-    )
+    );
+    tell::say_demanded(said, c, counters, lit)
 }
 
-// Demands the output with value v of any node, in the direction If. 2, 3, 4, 1, 12, 13.
-pub fn define_weighted(
+// Gives the output's literal. 2, 3, 4, 1, 12, 13.
+#[no_mangle]
+pub extern "C" fn totdb_define_weighted(
     nodes: &[u32],
     inputs: &[i32],
     keys: &[u32],
@@ -136,14 +169,16 @@ pub fn define_weighted(
     clauses: &mut [i32],
     ints: &mut [i32],
     bytes: &mut [u8],
-    c: Counters,
+    counters: &mut [usize; 7],
     id: usize,
     v: usize,
-) -> Demanded
-    ensures { λ r. ⌜ WeightedMet (db (now (nodes .entry)) (now (inputs .entry)) (now (keys .entry)) (now (lits .entry)) (now (marks .entry)) (now (clauses .entry)) c)
-        (work (now (ints .entry)) (now (bytes .entry))) id v r (now (lits .exit)) (now (marks .exit)) (now (clauses .exit)) ⌝ }
+    lit: &mut i32,
+) -> u32
+    ensures { λ r. ⌜ DemandTold (weightedCall (db (now (nodes .entry)) (now (inputs .entry)) (now (keys .entry)) (now (lits .entry)) (now (marks .entry)) (now (clauses .entry)) (countersOf (now (counters .entry))))
+        (work (now (ints .entry)) (now (bytes .entry))) id v) r (now (lit .exit)) (now (counters .exit)) (now (lits .exit)) (now (marks .exit)) (now (clauses .exit)) ⌝ }
 {
-    sums::define_weighted(
+    let c = tell::counters_of(counters);
+    let said = door::define_weighted(
         nodes,
         inputs,
         keys,
@@ -155,11 +190,13 @@ pub fn define_weighted(
         c,
         id,
         v,
-    )
+    );
+    tell::say_demanded(said, c, counters, lit)
 }
 
-// Gives a variable to each cell without a literal at and below the node `root`: left, right, then itself. 2, 3, 4, 12.
-pub fn reserve_vars(
+// 2, 3, 4, 12.
+#[no_mangle]
+pub extern "C" fn totdb_reserve_vars(
     nodes: &[u32],
     inputs: &[i32],
     keys: &[u32],
@@ -168,28 +205,31 @@ pub fn reserve_vars(
     clauses: &[i32],
     ints: &mut [i32],
     bytes: &mut [u8],
-    c: Counters,
-    root: usize,
-) -> Kept
-    ensures { λ r. ⌜ ReserveMet (db (now (nodes .entry)) (now (inputs .entry)) (now (keys .entry)) (now (lits .entry)) (now (marks .entry)) (now (clauses .entry)) c)
-        (work (now (ints .entry)) (now (bytes .entry))) root r (now (lits .exit)) ⌝ }
+    counters: &mut [usize; 7],
+    id: usize,
+) -> u32
+    ensures { λ r. ⌜ ReserveTold (db (now (nodes .entry)) (now (inputs .entry)) (now (keys .entry)) (now (lits .entry)) (now (marks .entry)) (now (clauses .entry)) (countersOf (now (counters .entry)))) (work (now (ints .entry)) (now (bytes .entry))) id
+        r (now (counters .exit)) (now (lits .exit)) ⌝ }
 {
-    upkeep::reserve_vars(
+    let c = tell::counters_of(counters);
+    let said = door::reserve_vars(
         nodes,
         inputs,
         keys,
         lits,
         marks,
-        clauses.len(),
+        clauses,
         ints,
         bytes,
         c,
-        root,
-    )
+        id,
+    );
+    tell::say_kept(said, c, counters)
 }
 
-// The value of node id under an assignment: byte v - 1 is variable v, 1 for true. 2, 3, 4, 14.
-pub fn value(
+// Gives the node's value. 2, 3, 4, 14.
+#[no_mangle]
+pub extern "C" fn totdb_value(
     nodes: &[u32],
     inputs: &[i32],
     keys: &[u32],
@@ -198,55 +238,65 @@ pub fn value(
     clauses: &[i32],
     ints: &mut [i32],
     bytes: &mut [u8],
-    c: Counters,
+    counters: &[usize; 7],
     id: usize,
     assign: &[u8],
-) -> Valued
-    ensures { λ r. ⌜ r ≡ valueResult (db (now (nodes .entry)) (now (inputs .entry)) (now (keys .entry)) (now (lits .entry)) (now (marks .entry)) (now (clauses .entry)) c)
-        (work (now (ints .entry)) (now (bytes .entry))) id (now (assign .entry)) ⌝ }
+    value: &mut usize,
+) -> u32
+    ensures { λ r. ⌜ ValueTold (valueCall (db (now (nodes .entry)) (now (inputs .entry)) (now (keys .entry)) (now (lits .entry)) (now (marks .entry)) (now (clauses .entry)) (countersOf (now (counters .entry)))) (work (now (ints .entry)) (now (bytes .entry))) id (now (assign .entry)) .said)
+        r (pos (now (value .exit))) ⌝ }
 {
-    upkeep::value(
+    let c = tell::counters_of(counters);
+    let said = door::value(
         nodes,
         inputs,
         keys,
         lits,
         marks,
-        clauses.len(),
+        clauses,
         ints,
         bytes,
         c,
         id,
         assign,
-    )
+    );
+    tell::say_valued(said, value)
 }
 
-// Clears both marks of every cell and keeps the literals. 2.
-pub fn reset(
+// 2.
+#[no_mangle]
+pub extern "C" fn totdb_reset(
     nodes: &[u32],
     inputs: &[i32],
     keys: &[u32],
     lits: &[i32],
     marks: &mut [u8],
     clauses: &[i32],
-    c: Counters,
-) -> Kept
-    ensures { λ r. ⌜ ResetMet (db (now (nodes .entry)) (now (inputs .entry)) (now (keys .entry)) (now (lits .entry)) (now (marks .entry)) (now (clauses .entry)) c)
-        r (now (marks .exit)) ⌝ }
+    counters: &mut [usize; 7],
+) -> u32
+    ensures { λ r. ⌜ ResetTold (db (now (nodes .entry)) (now (inputs .entry)) (now (keys .entry)) (now (lits .entry)) (now (marks .entry)) (now (clauses .entry)) (countersOf (now (counters .entry))))
+        r (now (counters .exit)) (now (marks .exit)) ⌝ }
 {
-    upkeep::reset(nodes, inputs, keys, lits, marks, clauses.len(), c)
+    let c = tell::counters_of(counters);
+    let said = door::reset(nodes, inputs, keys, lits, marks, clauses, c);
+    tell::say_kept(said, c, counters)
 }
 
-// Sets the clause length to 0. 2.
-pub fn empty_clauses(
+// 2.
+#[no_mangle]
+pub extern "C" fn totdb_empty_clauses(
     nodes: &[u32],
     inputs: &[i32],
     keys: &[u32],
     lits: &[i32],
     marks: &[u8],
     clauses: &[i32],
-    c: Counters,
-) -> Kept
-    ensures { λ r. ⌜ r ≡ emptyResult (db (now (nodes .entry)) (now (inputs .entry)) (now (keys .entry)) (now (lits .entry)) (now (marks .entry)) (now (clauses .entry)) c) ⌝ }
+    counters: &mut [usize; 7],
+) -> u32
+    ensures { λ r. ⌜ Told (emptyCall (db (now (nodes .entry)) (now (inputs .entry)) (now (keys .entry)) (now (lits .entry)) (now (marks .entry)) (now (clauses .entry)) (countersOf (now (counters .entry)))) .said)
+        r (pos 0) (now (counters .exit)) ⌝ }
 {
-    upkeep::empty_clauses(nodes, inputs, keys, lits, marks, clauses.len(), c)
+    let c = tell::counters_of(counters);
+    let said = door::empty_clauses(nodes, inputs, keys, lits, marks, clauses, c);
+    tell::say_kept(said, c, counters)
 }
