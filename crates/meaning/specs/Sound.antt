@@ -37,7 +37,7 @@ reach-of-eq : (k : Kind) (v q : ℕ) → q ≡ v → ReachOf k v q
 reach-of-eq leaf v q h = omega arith
 reach-of-eq dummy v q h = omega arith
 reach-of-eq unit v q h = omega arith
-reach-of-eq general v q h = sym h
+reach-of-eq general v q h = omega arith
 
 -- below a node that is not general, output x-1 tells of x
 pub key-small : (t : Tab) (c : ℕ) (k : Kind) → NodeOk t c k → NotGeneral k → (x : ℕ) → x ≤ t .node c .count → keyAt t c x ≡ x
