@@ -47,7 +47,7 @@ min-requires c κs = tt
 
 -- src/lib.rt:88:16
 sub-from : tie.Need-sub-from Inv-loop μ-loop
-sub-from c = loop-low (length (c .before .args .right .now)) (c .before .args .i + 1) (c .min .result) (c .min .ensures)
+sub-from c = loop-low _ _ _ (c .min .ensures)
 
 -- src/lib.rt:89:31
 add-min-2 : tie.Need-add-min-2 Inv-loop μ-loop
@@ -59,9 +59,7 @@ min-requires-2 c κs = tt
 
 -- src/lib.rt:89:15
 add-end : tie.Need-add-end Inv-loop μ-loop
-add-end c =
-    let s = c .before .before in
-    omega (arith, loop-low (length (s .args .left .now)) (s .args .i + 1) (c .min2 .result) (c .min2 .ensures))
+add-end c = omega (arith, loop-low _ _ _ (c .min2 .ensures))
 
 -- src/lib.rt:92:5
 loop-holds : tie.Need-loop-holds Inv-loop μ-loop
@@ -75,14 +73,14 @@ add-if-clause c = omega arith
 sub-if-clause : tie.Need-sub-if-clause Inv-loop μ-loop
 sub-if-clause c =
     let s = c .before .before .before .before in
-    let at = loop-split (length (s .args .left .now)) (length (s .args .right .now)) (s .args .i + 1) _ _ (c .before .loop .x) (c .before .before .before .min .ensures) (c .before .before .min2 .ensures) (c .before .loop .inv .0) (c .loop-test .taken) in
+    let at = loop-split _ _ (s .args .i + 1) _ _ (c .before .loop .x) (c .before .before .before .min .ensures) (c .before .before .min2 .ensures) (c .before .loop .inv .0) (omega (arith, c .loop-test .taken)) in
     split-below _ _ _ _ _ at
 
 -- src/lib.rt:93:13
 if-clause-requires : tie.Need-if-clause-requires Inv-loop μ-loop
 if-clause-requires c κs =
     let s = c .before .before .before .before in
-    let at = loop-split (length (s .args .left .now)) (length (s .args .right .now)) (s .args .i + 1) _ _ (c .before .loop .x) (c .before .before .before .min .ensures) (c .before .before .min2 .ensures) (c .before .loop .inv .0) (c .loop-test .taken) in
+    let at = loop-split _ _ (s .args .i + 1) _ _ (c .before .loop .x) (c .before .before .before .min .ensures) (c .before .before .min2 .ensures) (c .before .loop .inv .0) (omega (arith, c .loop-test .taken)) in
     ((at .left, at .right), (s .pre .1 .0, s .pre .1 .1))
 
 -- src/lib.rt:94:9

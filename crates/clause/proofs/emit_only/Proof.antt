@@ -39,7 +39,7 @@ min-requires c κs = tt
 
 -- src/lib.rt:105:16
 sub-from : tie.Need-sub-from Inv-loop μ-loop
-sub-from c = loop-low (length (c .before .args .right .now)) (c .before .args .i) (c .min .result) (c .min .ensures)
+sub-from c = loop-low _ _ _ (c .min .ensures)
 
 -- src/lib.rt:106:15
 min-requires-2 : tie.Need-min-requires-2 Inv-loop μ-loop
@@ -47,9 +47,7 @@ min-requires-2 c κs = tt
 
 -- src/lib.rt:106:15
 add-end : tie.Need-add-end Inv-loop μ-loop
-add-end c =
-    let s = c .before .before in
-    omega (arith, loop-low (length (s .args .left .now)) (s .args .i) (c .min2 .result) (c .min2 .ensures))
+add-end c = omega (arith, loop-low _ _ _ (c .min2 .ensures))
 
 -- src/lib.rt:109:5
 loop-holds : tie.Need-loop-holds Inv-loop μ-loop
@@ -59,14 +57,14 @@ loop-holds c = (omega arith, refl, omega arith, refl)
 sub-only-clause : tie.Need-sub-only-clause Inv-loop μ-loop
 sub-only-clause c =
     let s = c .before .before .before .before in
-    let at = loop-split (length (s .args .left .now)) (length (s .args .right .now)) (s .args .i) _ _ (c .before .loop .x) (c .before .before .before .min .ensures) (c .before .before .min2 .ensures) (c .before .loop .inv .0) (c .loop-test .taken) in
+    let at = loop-split _ _ (s .args .i) _ _ (c .before .loop .x) (c .before .before .before .min .ensures) (c .before .before .min2 .ensures) (c .before .loop .inv .0) (omega (arith, c .loop-test .taken)) in
     split-below _ _ _ _ _ at
 
 -- src/lib.rt:110:13
 only-clause-requires : tie.Need-only-clause-requires Inv-loop μ-loop
 only-clause-requires c κs =
     let s = c .before .before .before .before in
-    let at = loop-split (length (s .args .left .now)) (length (s .args .right .now)) (s .args .i) _ _ (c .before .loop .x) (c .before .before .before .min .ensures) (c .before .before .min2 .ensures) (c .before .loop .inv .0) (c .loop-test .taken) in
+    let at = loop-split _ _ (s .args .i) _ _ (c .before .loop .x) (c .before .before .before .min .ensures) (c .before .before .min2 .ensures) (c .before .loop .inv .0) (omega (arith, c .loop-test .taken)) in
     ((at .left, at .right), rw (toZ-ofZ (s .fits .o)) (s .pre .1))
 
 -- src/lib.rt:111:9
