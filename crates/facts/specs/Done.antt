@@ -3,13 +3,15 @@ use Prim.Native.Nat.{ℕ, suc, _+_, _-_, _<_, _≤_}
 use mathlib.Core.List.{List, _++_}
 use mathlib.Core.Bool.{true, false}
 use mathlib.Core.Path.{_≡_, refl, sym, ap, subst, _∙_}
+use mathlib.Core.Logic.{⊎-elim}
 use native.Mathlib.Omega.{arith}
 use native.Mathlib.Numerals.{add-one}
-use lib.ListN.{length, getD, take, drop, length-append, List·getD-append}
+use lib.ListN.{length, getD, take, drop, length-append, List·getD-append, List·getD-eq-default}
 use lib.Seq.{sets, sets-eq, length-take-le, drop-at}
 use lib.Dec.{ltb}
 use lib.IntN.{ℤ, pos}
 use borrow.Author.Tests.{ltb-true, ne-eqb}
+use Rattle.paper.specs.Below.{side}
 use Rattle.paper.specs.Rows.{nodeAt, isZero, valueCount, conLits}
 use Rattle.paper.specs.Plain.{justIf, wantOf, litAt, St, define, grow, start, plainRun}
 use Rattle.paper.specs.Weighted.{outputOf, placeOf, weigh, weighRun}
@@ -47,8 +49,9 @@ use Rattle.facts.specs.Carry.{moved}
 use Rattle.facts.specs.Taken.{cellLit, Taken, order-size, order-taken}
 use Rattle.facts.specs.Rel.{CellOf, unit-place, output-place}
 use Rattle.facts.specs.Ran.{Ran}
-use Rattle.facts.specs.Demands.{used-laid, used-good, count-ran, sum-ran, Through, count-done, sum-done, roomy}
+use Rattle.facts.specs.Demands.{used, used-laid, used-good, count-ran, sum-ran, Through, count-done, sum-done, roomy}
 use Rattle.facts.specs.Runs.{kept-words, Met, want-asks, unit-met, sum-marked, count-answer, sum-answer, count-rows, sum-rows, count-last, place-first, cell-in, unweighted-met, weighted-met}
+use Rattle.facts.specs.Children.{ChildrenFirst, first-back, Fit, define-first}
 
 -- no refusal has the number 0
 pub number-some : (w : Refusal) → 1 ≤ numberOf w
@@ -172,6 +175,17 @@ weighted-done d w id v h =
 
 -- ---- where the demanded output's literal stands in the order
 
+-- where a run of a table that passes starts from
+used-fit : (nodes : List ℕ) (inputs : List ℤ) (keys : List ℕ) (lits : List ℤ) (marks : List ℕ) (clauses : ℕ) (c : Counters) (ok : tableOk nodes inputs keys lits marks clauses c ≡ true)
+    → Fit grow (nodesUsed nodes c) (inputsUsed inputs c) (c .nodes) (c .cells) (used-laid nodes inputs keys lits marks clauses c ok) (start (cellsUsed lits c) (cellsUsed marks c) (c .next))
+used-fit nodes inputs keys lits marks clauses c ok =
+    let t = table-facts (nodeAt nodes) _ inputs keys lits marks clauses c ok in
+    record {
+      good = used-good nodes inputs keys lits marks clauses c ok;
+      bare = λ j z. ⊎-elim (λ (h : j < c .cells). used nodes inputs keys lits marks clauses c ok .cell j h .mark-held z)
+          (λ (h : c .cells ≤ j). List·getD-eq-default (cellsUsed marks c) 0 (omega (arith, used-length (c .cells) marks (t .mark-row)))) (side j (c .cells));
+    }
+
 -- "Take a literal" comes after the children: where a unit's output had no literal, the answer is the last one taken
 pub unweighted-last : (d : Db) (w : Work) (id i : ℕ) (m : Semantics) → unweightedCall d w id i m .said .number ≡ 0
     → nodeAt (d .nodes) id .kind ≡ 1 → cellLit (d .lits) (nodeAt (d .nodes) id .first + i) ≡ pos 0
@@ -194,6 +208,27 @@ unweighted-last d w id i m h k none =
       ap (λ (x : Demanded). demandedSaid x c .value) (g .is) ∙ sym (q .answer) ∙ last .1,
       ap (λ (x : Demanded). demandedSaid x c .counters .next) (g .is) ∙ ap (λ (x : Counters). x .next) (sym (q .counters)) ∙ last .2,
     )
+
+-- .. and so for every unit's output that it gives a literal: what its demand asks of units below has a literal by then, and a smaller one if it is new
+pub unweighted-children : (d : Db) (w : Work) (id i : ℕ) (m : Semantics) → unweightedCall d w id i m .said .number ≡ 0
+    → ChildrenFirst (nodesUsed (d .nodes) (d .counters)) (d .counters .nodes) (wantOf m) (d .lits) (unweightedCall d w id i m .db .lits)
+unfolding unweightedCall plainRun
+unweighted-children d w id i m h =
+    let c = d .counters in
+    let r = countOf (d .nodes) (d .inputs) (d .keys) (d .lits) (d .marks) (length (d .clauses)) (w .ints) (w .bytes) c id i (wantOf m) in
+    let p = countRun (d .nodes) (d .inputs) (d .lits) (d .marks) c id i (wantOf m) in
+    let N = nodesUsed (d .nodes) c in
+    let g = said-given r c h in
+    let t = count-done (d .nodes) (d .inputs) (d .keys) (d .lits) (d .marks) (length (d .clauses)) (w .ints) (w .bytes) c id i (wantOf m) (g .literal) (g .counters) (g .is) in
+    let here = ltb-true _ _ (t .here-ok) in
+    let out : i < valueCount (nodeAt (d .nodes) id) = ltb-true _ _ (t .output-ok) in
+    let lay = used-laid (d .nodes) (d .inputs) (d .keys) (d .lits) (d .marks) (length (d .clauses)) c (t .table-ok) in
+    let f = table-facts (nodeAt (d .nodes)) _ (d .inputs) (d .keys) (d .lits) (d .marks) (length (d .clauses)) c (t .table-ok) in
+    let ran = count-ran (d .nodes) (d .inputs) (d .keys) (d .lits) (d .marks) (length (d .clauses)) c (t .table-ok) id i (wantOf m) here out in
+    let first = define-first grow N (inputsUsed (d .inputs) c) (c .nodes) (c .cells) lay (id + 1) id i (wantOf m) (start (cellsUsed (d .lits) c) (cellsUsed (d .marks) c) (c .next)) (omega arith) here
+    (rw (node-used (d .nodes) (c .nodes) id here) out) (used-fit (d .nodes) (d .inputs) (d .keys) (d .lits) (d .marks) (length (d .clauses)) c (t .table-ok)) in
+    subst (λ (x : Demanded). ChildrenFirst N (c .nodes) (wantOf m) (d .lits) (demandedLits x p (d .lits) c)) (sym (g .is))
+    (first-back N (c .nodes) (c .cells) (d .lits) (p .lits) lay (order-size (ran .order) ∙ used-length (c .cells) (d .lits) (f .lit-row)) first)
 
 -- "before the children": where a general node's output had no literal, the answer is the first one taken
 pub weighted-first : (d : Db) (w : Work) (id v : ℕ) → weightedCall d w id v .said .number ≡ 0

@@ -14,5 +14,6 @@ pub mod Ran
 pub mod Demands
 pub mod Keeps
 pub mod Runs
+pub mod Children
 pub mod Done
 pub mod Past

@@ -151,11 +151,11 @@ again h (by-sum k i c e q s) (same d) = by-sum k i c e (d ∙ q) (h s)
 again h p (by-unit k i c e q s) = by-unit k i c e q s
 again h p (by-sum k i c e q s) = by-sum k i c e q s
 
-ran-refl : (ns : List ℕ) (nodes b : ℕ) (l : List ℤ) (m : List ℕ) (n : ℕ) → Ran ns nodes b l m n l m n
+pub ran-refl : (ns : List ℕ) (nodes b : ℕ) (l : List ℤ) (m : List ℕ) (n : ℕ) → Ran ns nodes b l m n l m n
 ran-refl ns nodes b l m n =
     record { order = order-refl l n; lit-far = λ k i h g q o. refl; size = refl; mark = λ j. same refl; far = λ k i h g q o. refl; if-kept = λ j h. h; only-kept = λ j h. h }
 
-ran-trans : {ns : List ℕ} {nodes b : ℕ} {l l' l'' : List ℤ} {m m' m'' : List ℕ} {n n' n'' : ℕ}
+pub ran-trans : {ns : List ℕ} {nodes b : ℕ} {l l' l'' : List ℤ} {m m' m'' : List ℕ} {n n' n'' : ℕ}
     → Ran ns nodes b l m n l' m' n' → Ran ns nodes b l' m' n' l'' m'' n'' → Ran ns nodes b l m n l'' m'' n''
 ran-trans p q =
     record {
@@ -168,7 +168,7 @@ ran-trans p q =
       only-kept = λ j h. q .only-kept j (p .only-kept j h);
     }
 
-ran-up : {ns : List ℕ} {nodes b d : ℕ} {l l' : List ℤ} {m m' : List ℕ} {n n' : ℕ} → b ≤ d → Ran ns nodes b l m n l' m' n' → Ran ns nodes d l m n l' m' n'
+pub ran-up : {ns : List ℕ} {nodes b d : ℕ} {l l' : List ℤ} {m m' : List ℕ} {n n' : ℕ} → b ≤ d → Ran ns nodes b l m n l' m' n' → Ran ns nodes d l m n l' m' n'
 ran-up h p = record { order = p .order; lit-far = λ k i g o r q. p .lit-far k i (omega arith) o r q; size = p .size; mark = p .mark; far = λ k i g o r q. p .far k i (omega arith) o r q; if-kept = p .if-kept; only-kept = p .only-kept }
 
 -- what a run may start from: nc cells, and a variable that is no 0

@@ -42,7 +42,7 @@ use Rattle.facts.specs.Demands.{used, used-laid, used-good, count-ran, s
 
 -- ---- the whole rows: the part in use after the run, with what lay past it
 
-back-low : {A : Type 0} (new old : List A) (n j : ℕ) (d : A) → length new ≡ n → j < n → getD (new ++ drop n old) j d ≡ getD new j d
+pub back-low : {A : Type 0} (new old : List A) (n j : ℕ) (d : A) → length new ≡ n → j < n → getD (new ++ drop n old) j d ≡ getD new j d
 back-low new old n j d e h = List·getD-append new (drop n old) d j (omega arith)
 
 back-high : {A : Type 0} (new old : List A) (n j : ℕ) (d : A) → length new ≡ n → n ≤ j → getD (new ++ drop n old) j d ≡ getD old j d
