@@ -196,7 +196,7 @@ fn place(words: usize, dry: bool) -> usize
     if words <= 1000000 { words } else { 0 }
 }
 
-// The demands below count, and the words that they take.
+// The demands below count, and the words that they take; 1 where the rows are not fit.
 fn demand_all(
     nodes: &[u32],
     inputs: &[i32],
@@ -207,10 +207,10 @@ fn demand_all(
     dry: bool,
     count: usize,
 ) -> usize {
-    let mut words = 0;
     if !ready(nodes, inputs, lits, marks) {
-        return words;
+        return 1;
     }
+    let mut words = 0;
     let mut next = 4097;
     let mut at = place(0, dry);
     let mut i = 0;

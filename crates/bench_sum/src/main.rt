@@ -3,10 +3,11 @@
 //   p: the public call; w: its recursion alone, in earnest; d: the same dry, on a full clause row; anything else: all of these;
 //   t: the table check
 //   a, b, c, d: the values 2, 512, 1023, 2046 of a node over two nodes of the values 1 to 1023
-//   e: the value 1200 of a node over the values 1 to 1023 and 341, 682, 1023; anything else: all of these
-// Every output below is demanded first, so that a demand appends its own clauses only: one for each pair l + r = v, and one for
-// each side that has v alone. Of v up to 1023 there are v - 1 pairs and both sides alone: 3, 513, 1024 clauses; of 2046 one pair,
-// of 1200 three. A pair takes four words, a side alone three.
+//   e: the value 1200 of a node over the values 1 to 1023 and 341, 682, 1023
+//   f: the value 1024 of the first of these nodes, and every output below it; anything else: a to f
+// For a to e every output below is demanded before, so that a demand appends its own clauses only: one for each pair l + r = v,
+// and one for each side that has v alone. Of v up to 1023 there are v - 1 pairs and both sides alone: 3, 513, 1024 clauses; of
+// 2046 one pair, of 1200 three. A pair takes four words, a side alone three.
 use paper::Added;
 use paper::Begun;
 use paper::Counters;
@@ -142,6 +143,23 @@ fn put_mark(marks: &mut [u8], at: usize, m: u8) {
     }
 }
 
+fn clear(marks: &mut [u8]) {
+    let mut k = 0;
+    while k < marks.len() {
+        put_mark(marks, k, 0);
+        k += 1;
+    }
+}
+
+// The mark of value v, in the cell at, taken back; of 1024 all marks.
+fn unmark(marks: &mut [u8], at: usize, v: usize) {
+    if v == 1024 {
+        clear(marks);
+    } else {
+        put_mark(marks, at, 0);
+    }
+}
+
 // The cell of output v, where the keys are 1, 2, ..
 fn cell(nodes: &[u32; 128], id: usize, v: usize) -> usize {
     let n = node_at(nodes, id);
@@ -204,7 +222,7 @@ fn calls(
     let mut now = c;
     let mut i = 0;
     while i < n {
-        put_mark(marks, at, 0);
+        unmark(marks, at, v);
         let from = with_words(now, c.words);
         now = call(
             nodes,
@@ -279,7 +297,7 @@ fn weighed(
     let mut words = 0;
     let mut i = 0;
     while i < n {
-        put_mark(marks, at, 0);
+        unmark(marks, at, y);
         let r = weigh_one(
             nodes,
             inputs,
@@ -644,7 +662,8 @@ fn value_of(which: u8) -> usize {
         b'b' => 512,
         b'c' => 1023,
         b'd' => 2046,
-        _ => 1200,
+        b'e' => 1200,
+        _ => 1024,
     }
 }
 
@@ -689,7 +708,7 @@ fn values(
 }
 
 fn first_of(which: u8) -> u8 {
-    if which < b'f' {
+    if which < b'g' {
         if b'a' <= which {
             return which;
         }
@@ -698,12 +717,12 @@ fn first_of(which: u8) -> u8 {
 }
 
 fn end_of(which: u8) -> u8 {
-    if which < b'f' {
+    if which < b'g' {
         if b'a' <= which {
             return which + 1;
         }
     }
-    b'f'
+    b'g'
 }
 
 fn times(digit: u8) -> usize {
@@ -745,7 +764,6 @@ fn run(
         7,
         1024,
     );
-    say_demand(clauses, 1024, c.words, d.words);
     let now = with_words(d, 0);
     let from = first_of(which);
     let to = end_of(which);

@@ -9,7 +9,7 @@ use Rattle.bench_sum.proofs.calls.Reads as reads
 use Rattle.bench_sum.proofs.calls.Lts as lts
 use Rattle.bench_sum.proofs.call.Reads as call-reads
 use Rattle.bench_sum.proofs.cell.Reads as cell-reads
-use Rattle.bench_sum.proofs.put_mark.Reads as put-mark-reads
+use Rattle.bench_sum.proofs.unmark.Reads as unmark-reads
 use Rattle.bench_sum.proofs.with_words.Reads as with-words-reads
 
 abbrev Inv-loop : tie.InvT-loop
@@ -27,8 +27,8 @@ loop-holds : tie.Need-loop-holds Inv-loop μ-loop
 loop-holds c = omega arith
 
 -- src/main.rt:206:9
-put-mark-requires : tie.Need-put-mark-requires Inv-loop μ-loop
-put-mark-requires c κs = search needs
+unmark-requires : tie.Need-unmark-requires Inv-loop μ-loop
+unmark-requires c κs = search needs
 
 -- src/main.rt:207:13
 with-words-requires : tie.Need-with-words-requires Inv-loop μ-loop
@@ -62,7 +62,7 @@ calls-spec =
     μ-loop
     cell-requires
     loop-holds
-    put-mark-requires
+    unmark-requires
     with-words-requires
     call-requires
     add-i

@@ -10,7 +10,7 @@ use Rattle.bench_sum.proofs.weighed.Tie as tie
 use Rattle.bench_sum.proofs.weighed.Reads as reads
 use Rattle.bench_sum.proofs.weighed.Lts as lts
 use Rattle.bench_sum.proofs.less.Reads as less-reads
-use Rattle.bench_sum.proofs.put_mark.Reads as put-mark-reads
+use Rattle.bench_sum.proofs.unmark.Reads as unmark-reads
 use Rattle.bench_sum.proofs.weigh_one.Reads as weigh-one-reads
 
 abbrev Inv-loop : tie.InvT-loop
@@ -24,12 +24,12 @@ loop-holds : tie.Need-loop-holds Inv-loop μ-loop
 loop-holds c = (c .before .before .before .pre .0, refl, refl, refl)
 
 -- src/main.rt:281:9
-put-mark-requires : tie.Need-put-mark-requires Inv-loop μ-loop
-put-mark-requires c κs = tt
+unmark-requires : tie.Need-unmark-requires Inv-loop μ-loop
+unmark-requires c κs = tt
 
 -- src/main.rt:282:13
 weigh-one-requires : tie.Need-weigh-one-requires Inv-loop μ-loop
-weigh-one-requires c κs = (remarked _ _ _ _ _ _ (c .before .before .before .before .before .put-mark .kept .0) (c .before .before .before .before .before .before .before .before .loop .inv .0), c .before .before .before .before .before .before .before .before .before .before .before .before .pre .1)
+weigh-one-requires c κs = (remarked _ _ _ _ _ _ (c .before .before .before .before .before .unmark .kept .0) (c .before .before .before .before .before .before .before .before .loop .inv .0), c .before .before .before .before .before .before .before .before .before .before .before .before .pre .1)
 
 -- src/main.rt:294:9
 less-requires : tie.Need-less-requires Inv-loop μ-loop
@@ -47,7 +47,7 @@ loop-less c = omega arith
 loop-again : tie.Need-loop-again Inv-loop μ-loop
 loop-again c = let d = c .before .before .before .before .before .weigh-one in
     let l = c .before .before .before .before .before .before .before .before .before .before .before .before .before .before .loop in
-    let m = c .before .before .before .before .before .before .before .before .before .before .before .put-mark in
+    let m = c .before .before .before .before .before .before .before .before .before .before .before .unmark in
     (moved _ _ _ _ _ _ (l .inv .0 .counted) (d .ensures), d .kept .1 .1 .1 .0 ∙ l .inv .1, d .kept .1 .1 .1 .1 .0 ∙ m .kept .0 ∙ l .inv .2, d .kept .1 .1 .1 .1 .1 .0 ∙ l .inv .3)
 
 -- src/main.rt:260:1
@@ -73,7 +73,7 @@ weighed-spec =
     Inv-loop
     μ-loop
     loop-holds
-    put-mark-requires
+    unmark-requires
     weigh-one-requires
     less-requires
     add-i
