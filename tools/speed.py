@@ -1,12 +1,13 @@
 #!/usr/bin/env python3
 """What the benchmark programs take.
 
-    speed.py [BENCH]
+    speed.py [PROGRAM ..] [BENCH]
 
-Times the programs in target/bin (`rt check bench_table bench_count bench_sum` makes them) and BENCH, a program that prints
-the Rust's own times for the demands of bench_count. A time is CPU time of the whole program for many turns, less that for
-one turn, by the turn: starting up and making the table drop out. All are run in turn, ROUNDS times, and the least is taken.
-Compared, not timed: what bench_sum writes for each value, with the words and clauses that tools/paper.py appends.
+Times the programs in target/bin (`rt check bench_table bench_count bench_sum` makes them), all or those named, and BENCH, a
+program that prints the Rust's own times for the demands of bench_count. A time is CPU time of the whole program for many
+turns, less that for one turn, by the turn: starting up and making the table drop out. BENCH's own are wall time. All are run
+in turn, ROUNDS times, and the least is taken. Compared, not timed: what bench_sum writes for each value, with the words and
+clauses that tools/paper.py appends.
 """
 import os
 import re
@@ -110,6 +111,6 @@ def times(program, benches):
 
 
 same()
-times("bench_count", sys.argv[1:])
-times("bench_sum", [])
-times("bench_table", [])
+named = [a for a in sys.argv[1:] if a in CASES]
+for name in named or CASES:
+    times(name, [a for a in sys.argv[1:] if a not in CASES and name == "bench_count"])
