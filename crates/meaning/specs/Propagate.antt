@@ -8,7 +8,7 @@ use native.Mathlib.Omega.{arith}
 use lib.IntN.{ℤ, pos, negℤ, negℤ-negℤ}
 use lib.Dec.{ltb}
 use borrow.Author.Tests.{ltb-true}
-use Rattle.facts.specs.Ranges.{Split, split-some}
+use Rattle.facts.specs.Ranges.{split-some}
 use Rattle.meaning.specs.Base.{AtPrev, prev, keep, In}
 use Rattle.meaning.specs.Table.{Kind, leaf, dummy, unit, general, If, OnlyIf, Tab, Marks, litOf, lit, doneOf, Done, NotGeneral, OnlyPair, ifOf, onlyOf, NodeOk, bit, ValueOf, Values, History, Inv}
 use Rattle.meaning.specs.Sound.{strong, bound, key-small, ReachOf, choose-unit}

@@ -9,7 +9,7 @@ use native.Mathlib.Omega.{arith}
 use lib.IntN.{ℤ, pos, negℤ}
 use lib.Dec.{ltb}
 use borrow.Author.Tests.{ltb-true}
-use Rattle.facts.specs.Ranges.{Split, split-some}
+use Rattle.facts.specs.Ranges.{split-some}
 use Rattle.meaning.specs.Base.{Nz, litv, AtPrev, Sat, prev, keep, pass-prev, pass-keep, nz-pos, neg-true, lit-neg, in-sat}
 use Rattle.meaning.specs.Table.{Kind, leaf, dummy, unit, general, Dir, If, OnlyIf, Tab, Marks, litOf, lit, doneOf, Done, keyAt, NotGeneral, IfPair, ifOf, onlyOf, UnitOk, GeneralOk, NodeOk, Shape, bit, ValueOf, Values, History, Marked, Inv, AllSat}
 
