@@ -113,7 +113,7 @@ finds-general keys n v (At j) e s =
 finds-general keys n v Absent e s = λ j h q. s j (omega arith) (omega (arith, count-general n e)) (rw (ne-eqb (n .kind) 0 (λ z. omega arith)) at q)
 
 -- a leaf's value is 1, and a unit's are 1, 2, .., as the table check has it
-value-counts : (keys : List ℕ) (n : Node) → ((n .kind ≡ 0 → ⊥) → (i : ℕ) → i < valueCount n → wordFrom keys (n .first) i ≡ i + 1) → (j : ℕ) → j < valueCount n → valueAt keys n j ≡ j + 1
+pub value-counts : (keys : List ℕ) (n : Node) → ((n .kind ≡ 0 → ⊥) → (i : ℕ) → i < valueCount n → wordFrom keys (n .first) i ≡ i + 1) → (j : ℕ) → j < valueCount n → valueAt keys n j ≡ j + 1
 unfolding valueAt
 value-counts keys n units j h = go (ℕ-discrete (n .kind) 0)
   where
@@ -142,7 +142,7 @@ finds keys n units v = go (ℕ-discrete (n .kind) 2) (ℕ-discrete v 0)
 
 -- ---- the three parts of a step: the pairs, left alone, right alone
 
-over-last : {A : Type 0} (n : ℕ) (f : ℕ → A → A) (k : ℕ) (a : A) → over (suc n) f k a ≡ f (k + n) (over n f k a)
+pub over-last : {A : Type 0} (n : ℕ) (f : ℕ → A → A) (k : ℕ) (a : A) → over (suc n) f k a ≡ f (k + n) (over n f k a)
 unfolding over
 over-last zero f k a = let e : k ≡ k + 0 = omega arith in ap (λ (i : ℕ). f i a) e
 over-last (suc n) f k a = let e : k + 1 + n ≡ k + suc n = omega arith in over-last n f (k + 1) (f k a) ∙ ap (λ (i : ℕ). f i (over n f (k + 1) (f k a))) e

@@ -3,6 +3,7 @@
 use paper::Found;
 use paper::Job;
 use paper::Node;
+use paper::Span;
 use paper::Way;
 use rows::con_len;
 use rows::node_at;
@@ -10,11 +11,11 @@ use rows::value_at;
 use rows::value_count;
 use rows::word_from;
 ghost use mathlib.Core.Path.{_≡_};
-ghost use Prim.Native.Nat.{ℕ, _<_, _≤_, _^_};
+ghost use Prim.Native.Nat.{ℕ, _*_, _<_, _≤_, _^_};
 ghost use lib.ListN.{length};
 ghost use Rattle.paper.specs.Rows.{nodeAt, conLen};
-ghost use Rattle.paper.specs.Weighted.{keyFrom, outputOf, shareOf, joined, wayTwo, wayOf, turnsOf, jobOf};
-ghost use Rattle.find.specs.Ways.{Rising, Sorted, Muls, Place};
+ghost use Rattle.paper.specs.Weighted.{keyFrom, outputOf, shareOf, joined, wayTwo, wayOf, jobOf};
+ghost use Rattle.find.specs.Ways.{Rising, Sorted, Muls, Place, Cut, largestOf, Pairing};
 
 // "search the keys for v": the place of v among count keys behind first. The keys ascend, so that each step halves what is left: those
 // before lo are below v, and those from hi on above it.
@@ -116,14 +117,61 @@ pub fn way_at(nodes: &[u32], keys: &[u32], id: usize, v: usize, p: usize) -> Way
     way_two(keys, n, l, r, v, p)
 }
 
-// How many ways there are to try.
-pub fn turns(nodes: &[u32], id: usize) -> usize
-    requires { ⌜ conLen (nodeAt (now nodes) (nodeAt (now nodes) id .left)) < 2 ^ 32 ⌝ }
-    ensures { λ r. ⌜ r ≡ turnsOf (now (nodes .entry)) id ⌝ }
+// How many outputs the left child has: each may be one of a pair, and after the pairs come left alone and right alone.
+pub fn left_count(nodes: &[u32], id: usize) -> usize
+    ensures { λ r. ⌜ r ≡ conLen (nodeAt (now (nodes .entry)) (nodeAt (now (nodes .entry)) id .left)) ⌝ }
 {
     let n = node_at(nodes, id);
     let l = node_at(nodes, n.left);
-    con_len(l) + 2
+    con_len(l)
+}
+
+// The first place of n whose value times m, with more on top, is at least v; past the last one if there is none. The values ascend, so that
+// each step halves what is left: those before lo are too small, and those from hi on are not.
+fn first_from(keys: &[u32], n: Node, m: usize, more: usize, v: usize) -> usize
+    requires { ⌜ (m < 2 ^ 16) × (more < 2 ^ 48) ⌝ }
+    requires { ⌜ Sorted (now keys) n ⌝ }
+    ensures { λ r. ⌜ Cut (now (keys .entry)) n m more v r ⌝ }
+{
+    let mut lo = 0;
+    let mut hi = con_len(n);
+    while lo < hi {
+        let mid = lo + (hi - lo) / 2;
+        let x = value_at(keys, n, mid);
+        if m * x + more < v {
+            lo = mid + 1;
+        } else {
+            hi = mid;
+        }
+    }
+    lo
+}
+
+// The largest value of n; 0 if it has none.
+fn largest(keys: &[u32], n: Node) -> usize
+    ensures { λ r. ⌜ (r ≡ largestOf (now (keys .entry)) n) × (r < 2 ^ 32) ⌝ }
+{
+    let c = con_len(n);
+    if c == 0 {
+        return 0;
+    }
+    value_at(keys, n, c - 1)
+}
+
+// The left outputs that can be one of a pair for v: those before are too small even with the largest right value, and those behind are v or
+// more alone.
+pub fn window(nodes: &[u32], keys: &[u32], id: usize, v: usize) -> Span
+    requires { ⌜ Muls (nodeAt (now nodes) id) ⌝ }
+    requires { ⌜ Sorted (now keys) (nodeAt (now nodes) (nodeAt (now nodes) id .left)) ⌝ }
+    ensures { λ w. ⌜ Pairing (now (nodes .entry)) (now (keys .entry)) id v w ⌝ }
+{
+    let n = node_at(nodes, id);
+    let l = node_at(nodes, n.left);
+    let r = node_at(nodes, n.right);
+    let most = n.rmul * largest(keys, r);
+    let from = first_from(keys, l, n.lmul, most, v);
+    let to = first_from(keys, l, n.lmul, 0, v);
+    Span { from, to }
 }
 
 // What is to be done for the output at place y of node id.

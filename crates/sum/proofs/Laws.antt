@@ -17,15 +17,17 @@ use Rattle.paper.specs.Plain.{litAt, hasNone, takenLits, takenNext, St, justIf,
 use Rattle.paper.specs.Weighted.{wayTwo, wayOf, turnsOf, jobOf, takeAt, markAt, emitWay, clauseAt, linkOf, linksOf, doOf, weigh}
 use Rattle.paper.specs.declared.Node.{Node}
 use Rattle.paper.specs.declared.Run.{Run}
+use Rattle.paper.specs.declared.Span.{Span}
 use Rattle.paper.specs.declared.Way.{Way}
 use Rattle.paper.specs.declared.Job.{Job}
 use Rattle.paper.specs.declared.Job.the-variants.{Nothing, Count, Sum}
 use Rattle.clause.specs.Row.{Row, at-row, lay}
 use Rattle.count.specs.Run.{outs, Ok, Here, Fit, state}
 use Rattle.count.proofs.Laws.{fit-after, mono-define, next-by}
-use Rattle.find.specs.Ways.{Place}
+use Rattle.find.specs.Ways.{Sorted, Place, Pairing}
 use Rattle.find.proofs.Laws.{count-leaf, count-general, way-within}
-use Rattle.sum.specs.Ways.{Spot, CellAt, WayAt}
+use Rattle.find.proofs.Pairs.{in-window, pairs-then-alone}
+use Rattle.sum.specs.Ways.{Spot, CellAt, WayAt, pairsOf}
 
 -- ---- literals of a node
 
@@ -203,6 +205,32 @@ way-ok ns keys nc k at v j p c e =
     let w = way-within keys (nodeAt ns k) (nodeAt ns (nodeAt ns k .left)) (nodeAt ns (nodeAt ns k .right)) v j in
     record { cell = c; left = rw e (w .left); right = rw e (w .right) }
 
-pub links-is : (rec : Rec) (ns : List ℕ) (ins : List ℤ) (keys : List ℕ) (k at v end : ℕ) (s : St Row) → end ≡ turnsOf ns k → span 0 end (λ j t. linkOf lay rec ns ins k at (wayOf ns keys k v j) t) s ≡ linksOf lay rec ns ins keys k at v s
-unfolding linksOf
-links-is rec ns ins keys k at v end s e = rw e
+-- ---- the pairs, then left alone and right alone
+
+-- the turns of the window are those of the pairs
+pub pairs-start : (f : ℕ) (ns : List ℕ) (ins : List ℤ) (keys : List ℕ) (k at v : ℕ) (w : Span) (s : St Row) → Pairing ns keys k v w → Sorted keys (nodeAt ns (nodeAt ns k .right))
+    → span (w .from) (w .to) (λ j t. linkOf lay (weigh lay f ns ins keys) ns ins k at (wayOf ns keys k v j) t) s ≡ pairsOf (weigh lay f ns ins keys) ns ins keys k at v s
+unfolding pairsOf
+pairs-start f ns ins keys k at v w s c r = in-window lay ns ins keys k at v f w s c r
+
+module _ (rec : Rec) (ns : List ℕ) (ins : List ℤ) (keys : List ℕ) (k at v : ℕ) (s : St Row) (e : ℕ) (p q : Way) (h : e ≡ outs ns (nodeAt ns k .left))
+    (hp : p ≡ wayOf ns keys k v e) (hq : q ≡ wayOf ns keys k v (e + 1)) where
+  abbrev one : Way → St Row → St Row
+  one w t = linkOf lay rec ns ins k at w t
+
+  parts : one q (one p (pairsOf rec ns ins keys k at v s)) ≡ linksOf lay rec ns ins keys k at v s
+  unfolding pairsOf
+  parts = rw (hq, hp, h) (sym (pairs-then-alone lay ns ins keys k at v rec s))
+
+  pub alone-is : (s₁ s₂ s₃ : St Row) → s₁ ≡ pairsOf rec ns ins keys k at v s → s₂ ≡ one p s₁ → s₃ ≡ one q s₂ → s₃ ≡ linksOf lay rec ns ins keys k at v s
+  alone-is s₁ s₂ s₃ a b c = c ∙ ap (one q) (b ∙ ap (one p) a) ∙ parts
+
+  pub right-ends : linksOf lay rec ns ins keys k at v s .next ≤ 2 ^ 31 → (s₁ s₂ : St Row) → s₁ ≡ pairsOf rec ns ins keys k at v s → s₂ ≡ one p s₁ → one q s₂ .next ≤ 2 ^ 31
+  right-ends z s₁ s₂ a b = next-by (alone-is s₁ s₂ (one q s₂) a b refl) z
+
+  module _ (m : Mono rec) (z : linksOf lay rec ns ins keys k at v s .next ≤ 2 ^ 31) where
+    pub left-ends : (s₁ : St Row) → s₁ ≡ pairsOf rec ns ins keys k at v s → one p s₁ .next ≤ 2 ^ 31
+    left-ends s₁ a = le-trans (mono-link rec m ns ins k at q (one p s₁)) (right-ends z s₁ (one p s₁) a refl)
+
+    pub pairs-ends : pairsOf rec ns ins keys k at v s .next ≤ 2 ^ 31
+    pairs-ends = le-trans (mono-link rec m ns ins k at p (pairsOf rec ns ins keys k at v s)) (left-ends (pairsOf rec ns ins keys k at v s) refl)

@@ -5,9 +5,12 @@ use Prim.Native.Nat.{ℕ, _/_, _<_, _≤_, _^_}
 use lib.IntN.{ℤ}
 use lib.ListN.{length}
 use Rattle.paper.specs.Limits.{nodeWords}
+use Rattle.paper.specs.Span.{span}
 use Rattle.paper.specs.Rows.{nodeAt}
+use Rattle.paper.specs.Plain.{St}
+use Rattle.paper.specs.Weighted.{wayOf, linkOf}
 use Rattle.paper.specs.declared.Way.{Way}
-use Rattle.clause.specs.Row.{Neg}
+use Rattle.clause.specs.Row.{Row, Neg, lay}
 use Rattle.count.specs.Run.{Ok, outs}
 use Rattle.find.specs.Ways.{Sorted, Muls}
 
@@ -51,3 +54,7 @@ pub record Sides (ns : List ℕ) (ins lits : List ℤ) (left right at : ℕ) (p 
   pub neg-ins : Neg ins
   pub neg-lits : Neg lits
   pub inside : at < length lits
+
+-- the links of the pairs, one for each left output
+unfoldable pub pairsOf : (ℕ → ℕ → St Row → St Row) → List ℕ → List ℤ → List ℕ → ℕ → ℕ → ℕ → St Row → St Row
+pairsOf rec ns ins keys k at v s = span 0 (outs ns (nodeAt ns k .left)) (λ j t. linkOf lay rec ns ins k at (wayOf ns keys k v j) t) s

@@ -6,8 +6,9 @@ use count::con_lits;
 use count::define_unweighted_rec;
 use count::take_lit;
 use find::job_at;
-use find::turns;
+use find::left_count;
 use find::way_at;
+use find::window;
 use paper::Job;
 use paper::Run;
 use paper::Want;
@@ -21,7 +22,7 @@ ghost use Rattle.paper.specs.Plain.{litAt};
 ghost use Rattle.paper.specs.Weighted.{emitWay, linkOf, linksOf, weigh};
 ghost use Rattle.clause.specs.Row.{lay, at-row, Laid};
 ghost use Rattle.count.specs.Run.{Fit, state, Ran, Ends};
-ghost use Rattle.sum.specs.Ways.{Generals, Spot, CellAt, WayAt, Sides};
+ghost use Rattle.sum.specs.Ways.{Generals, Spot, CellAt, WayAt, Sides, pairsOf};
 
 // The clause of a way, if it is one.
 fn clause_of<'a>(
@@ -116,10 +117,40 @@ fn links(
         (λ f. linksOf lay (weigh lay f (now (nodes .entry)) (now (inputs .entry)) (now (keys .entry))) (now (nodes .entry)) (now (inputs .entry)) (now (keys .entry)) id at v (state (now (lits .entry)) (now (marks .entry)) (now (row .entry)) run))
         (now (lits .exit)) (now (marks .exit)) (now (row .exit)) r ⌝ }
 {
-    let end = turns(nodes, id);
-    let mut k = 0;
+    let both = pairs(nodes, inputs, keys, lits, marks, row, id, at, v, run);
+    let end = left_count(nodes, id);
+    let x = way_at(nodes, keys, id, v, end);
+    let left = link(nodes, inputs, keys, lits, marks, row, id, at, x, both);
+    let y = way_at(nodes, keys, id, v, end + 1);
+    link(nodes, inputs, keys, lits, marks, row, id, at, y, left)
+}
+
+// "For left values x ascending": only those that can be one of a pair are tried, since the others do nothing.
+fn pairs(
+    nodes: &[u32],
+    inputs: &[i32],
+    keys: &[u32],
+    lits: &mut [i32],
+    marks: &mut [u8],
+    row: &mut [i32],
+    id: usize,
+    at: usize,
+    v: usize,
+    run: Run,
+) -> Run
+    requires { ⌜ Fit (now nodes) (now inputs) (now lits) (now marks) run ⌝ }
+    requires { ⌜ Generals (now nodes) (now keys) ⌝ }
+    requires { ⌜ CellAt (now nodes) (length (now lits)) id at ⌝ }
+    requires { ⌜ Ends id (λ f. pairsOf (weigh lay f (now nodes) (now inputs) (now keys)) (now nodes) (now inputs) (now keys) id at v (state (now lits) (now marks) (now row) run)) ⌝ }
+    ensures { λ r. ⌜ Ran (now (nodes .entry)) (now (inputs .entry)) id
+        (λ f. pairsOf (weigh lay f (now (nodes .entry)) (now (inputs .entry)) (now (keys .entry))) (now (nodes .entry)) (now (inputs .entry)) (now (keys .entry)) id at v (state (now (lits .entry)) (now (marks .entry)) (now (row .entry)) run))
+        (now (lits .exit)) (now (marks .exit)) (now (row .exit)) r ⌝ }
+{
+    let w = window(nodes, keys, id, v);
+    let to = w.to;
+    let mut k = w.from;
     let mut r = run;
-    while k < end {
+    while k < to {
         let p = way_at(nodes, keys, id, v, k);
         r = link(nodes, inputs, keys, lits, marks, row, id, at, p, r);
         k += 1;

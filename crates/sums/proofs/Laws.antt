@@ -11,7 +11,7 @@ use lib.ListN.{length, drop}
 use lib.Seq.{sets}
 use Rattle.paper.specs.Limits.{nodeWords}
 use Rattle.paper.specs.Below.{and-left, and-right}
-use Rattle.paper.specs.Rows.{nodeAt, conLits}
+use Rattle.paper.specs.Rows.{nodeAt, wordFrom, valueCount, conLits}
 use Rattle.paper.specs.Table.{tableOk, workOk}
 use Rattle.paper.specs.Plain.{St, litAt}
 use Rattle.paper.specs.Weighted.{outputOf, placeOf, weigh, weighRun}
@@ -32,7 +32,7 @@ use Rattle.runs.specs.Dry.{dryRun, Known, Real, dry-ends, known, real-ends, rea
 use Rattle.clause.specs.Row.{lay}
 use Rattle.count.specs.Run.{Here, state, Ends}
 use Rattle.find.specs.Ways.{Rising, Sorted}
-use Rattle.find.proofs.Laws.{output-place}
+use Rattle.find.proofs.Laws.{count-dummy, count-unit, output-place}
 use Rattle.sum.specs.Ways.{GeneralOk, Generals}
 use Rattle.sum.proofs.Laws.{outs-few}
 use Rattle.sums.specs.Ready.{Ready, MetSum}
@@ -41,9 +41,9 @@ use Rattle.sums.specs.Ready.{Ready, MetSum}
 
 module _ (nodes : List ℕ) {inputs : List ℤ} {keys : List ℕ} {lits : List ℤ} {marks : List ℕ} {clauses : ℕ} {c : Counters}
     (t : TableFacts (nodeAt nodes) (length nodes / nodeWords) inputs keys lits marks clauses c) (small : clauses ≤ 2 ^ 62) where
-  -- the keys of a general node, in the part in use, ascend
+  -- the keys of a general node, in the part in use, ascend, and those of a unit are 1, 2, ..
   pub sorted-of : (k : ℕ) → k < c .nodes → Sorted (cellsUsed keys c) (nodeAt nodes k)
-  sorted-of k h = record { general = go (t .node k h) }
+  sorted-of k h = record { general = go (t .node k h); counted = units (t .node k h) }
     where
       go : NodeFactsAt (nodeAt nodes) keys marks (c .cells) k → nodeAt nodes k .kind ≡ 2 → Rising (cellsUsed keys c) (nodeAt nodes k .first) (nodeAt nodes k .count)
       go (a-leaf e f) u = absurd (omega (arith, u))
@@ -56,6 +56,15 @@ module _ (nodes : List ℕ) {inputs : List ℤ} {keys : List ℕ} {lits : List �
                 let q = used-at (c .cells) keys (nodeAt nodes k .first + j) 0 (omega (arith, f .within)) in
                 rw (p, q) (key-ascend g i j a b);
           }
+
+      units : NodeFactsAt (nodeAt nodes) keys marks (c .cells) k → (nodeAt nodes k .kind ≡ 2 → ⊥) → (nodeAt nodes k .kind ≡ 0 → ⊥)
+          → (i : ℕ) → i < valueCount (nodeAt nodes k) → wordFrom (cellsUsed keys c) (nodeAt nodes k .first) i ≡ i + 1
+      units (a-leaf e f) u z i b = absurd (z e)
+      units (a-dummy e f) u z i b = absurd (let y : ⊥ = omega (arith, count-dummy (nodeAt nodes k) e) in y)
+      units (a-unit e f g) u z i b =
+          let l : i < nodeAt nodes k .count = omega (arith, count-unit (nodeAt nodes k) e) in
+          used-at (c .cells) keys (nodeAt nodes k .first + i) 0 (omega (arith, f .within)) ∙ g .key i l
+      units (a-general e f g) u z i b = absurd (u e)
 
   generals-of : Generals (nodesUsed nodes c) (cellsUsed keys c)
   generals-of k h u = go (t .node k (omega (arith, nodes-length nodes t)))
@@ -75,7 +84,7 @@ module _ (nodes : List ℕ) {inputs : List ℤ} {keys : List ℕ} {lits : List �
           record {
             left-below = rw e (f .left-low);
             right-below = rw e (f .right-low);
-            muls = rw e (record { left-some = g .lmul-low; left-small = omega (arith, g .lmul-high); right-some = g .rmul-low });
+            muls = rw e (record { left-some = g .lmul-low; left-small = omega (arith, g .lmul-high); right-some = g .rmul-low; right-small = omega (arith, g .rmul-high) });
             left-sorted = rw (e, same-node nodes t (nodeAt nodes k .left) l) (sorted-of (nodeAt nodes k .left) (omega (arith, nodes-length nodes t)));
             right-sorted = rw (e, same-node nodes t (nodeAt nodes k .right) r) (sorted-of (nodeAt nodes k .right) (omega (arith, nodes-length nodes t)));
             few = rw e (omega (arith, few, used-length (c .cells) lits (t .lit-row), t .counters .cell-limit));

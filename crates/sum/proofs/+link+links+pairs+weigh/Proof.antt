@@ -15,38 +15,45 @@ use Rattle.count.specs.Run.{Fit, Ok, outs, state}
 use Rattle.count.proofs.Laws.{next-by}
 use Rattle.find.specs.Ways.{Place}
 use Rattle.find.proofs.Laws.{count-ok, sum-ok}
-use Rattle.sum.specs.Ways.{CellAt, WayAt}
-use Rattle.sum.proofs.Laws.{place-at, link-ends-1, link-ends-2, turn-ends, link-is, links-is, take-is, mark-is, nothing-is, count-is, sum-is, links-ends, take-ends, taken-next, mono-weigh, way-ok, fit-words, fit-marks, fit-cell}
+use Rattle.sum.specs.Ways.{CellAt, WayAt, pairsOf}
+use Rattle.sum.proofs.Laws.{place-at, link-ends-1, link-ends-2, turn-ends, pairs-start, pairs-ends, left-ends, right-ends, alone-is, link-is, take-is, mark-is, nothing-is, count-is, sum-is, links-ends, take-ends, taken-next, mono-weigh, way-ok, fit-words, fit-marks, fit-cell}
 use Prim.Native.Nat.{ℕ, _<_}
 use borrow.Fn.Kinds.{In}
 use borrow.Fn.PlainCycle.{Measures, is, falls, and}
 use Rattle.sum.proofs.link.Reads as link
 use Rattle.sum.proofs.link.Kinds as link-kinds
-use Rattle.sum.proofs.+link+links+weigh.Lts-link as link-lts
+use Rattle.sum.proofs.+link+links+pairs+weigh.Lts-link as link-lts
 use Rattle.sum.proofs.links.Reads as links
 use Rattle.sum.proofs.links.Kinds as links-kinds
-use Rattle.sum.proofs.+link+links+weigh.Lts-links as links-lts
+use Rattle.sum.proofs.+link+links+pairs+weigh.Lts-links as links-lts
+use Rattle.sum.proofs.pairs.Reads as pairs
+use Rattle.sum.proofs.pairs.Kinds as pairs-kinds
+use Rattle.sum.proofs.+link+links+pairs+weigh.Lts-pairs as pairs-lts
 use Rattle.sum.proofs.weigh.Reads as weigh
 use Rattle.sum.proofs.weigh.Kinds as weigh-kinds
-use Rattle.sum.proofs.+link+links+weigh.Lts-weigh as weigh-lts
+use Rattle.sum.proofs.+link+links+pairs+weigh.Lts-weigh as weigh-lts
 use Rattle.count.proofs.define_unweighted_rec.Reads as define-unweighted-rec-reads
 use Rattle.count.proofs.take_lit.Reads as take-lit-reads
 use Rattle.find.proofs.job_at.Reads as job-at-reads
-use Rattle.find.proofs.turns.Reads as turns-reads
+use Rattle.find.proofs.left_count.Reads as left-count-reads
 use Rattle.find.proofs.way_at.Reads as way-at-reads
+use Rattle.find.proofs.window.Reads as window-reads
 use Rattle.rows.proofs.node_at.Reads as node-at-reads
 use Rattle.sum.proofs.clause_of.Reads as clause-of-reads
-use Rattle.sum.proofs.+link+links+weigh.{statement}
-use Rattle.sum.proofs.+link+links+weigh.Tie.{close}
+use Rattle.sum.proofs.+link+links+pairs+weigh.{statement}
+use Rattle.sum.proofs.+link+links+pairs+weigh.Tie.{close}
 
 abbrev μ-link : Measures 6 link-kinds.ps ℕ
-μ-link κs a = 3 * a .1 .1 .1 .1 .1 .1 .0
+μ-link κs a = 4 * a .1 .1 .1 .1 .1 .1 .0
 
 abbrev μ-links : Measures 6 links-kinds.ps ℕ
-μ-links κs a = 3 * a .1 .1 .1 .1 .1 .1 .0 + 1
+μ-links κs a = 4 * a .1 .1 .1 .1 .1 .1 .0 + 2
+
+abbrev μ-pairs : Measures 6 pairs-kinds.ps ℕ
+μ-pairs κs a = 4 * a .1 .1 .1 .1 .1 .1 .0 + 1
 
 abbrev μ-weigh : Measures 6 weigh-kinds.ps ℕ
-μ-weigh κs a = 3 * a .1 .1 .1 .1 .1 .1 .0 + 2
+μ-weigh κs a = 4 * a .1 .1 .1 .1 .1 .1 .0 + 3
 
 abbrev link-at : ℕ → In 6 link-kinds.ps
 link-at t = and 6 link-kinds.ps (is 6 link-kinds.ps μ-link t) link.Pre
@@ -60,13 +67,19 @@ links-at t = and 6 links-kinds.ps (is 6 links-kinds.ps μ-links t) links.Pre
 abbrev links-below : ℕ → In 6 links-kinds.ps
 links-below t = and 6 links-kinds.ps (falls 6 links-kinds.ps _<_ μ-links t) links.Pre
 
+abbrev pairs-at : ℕ → In 6 pairs-kinds.ps
+pairs-at t = and 6 pairs-kinds.ps (is 6 pairs-kinds.ps μ-pairs t) pairs.Pre
+
+abbrev pairs-below : ℕ → In 6 pairs-kinds.ps
+pairs-below t = and 6 pairs-kinds.ps (falls 6 pairs-kinds.ps _<_ μ-pairs t) pairs.Pre
+
 abbrev weigh-at : ℕ → In 6 weigh-kinds.ps
 weigh-at t = and 6 weigh-kinds.ps (is 6 weigh-kinds.ps μ-weigh t) weigh.Pre
 
 abbrev weigh-below : ℕ → In 6 weigh-kinds.ps
 weigh-below t = and 6 weigh-kinds.ps (falls 6 weigh-kinds.ps _<_ μ-weigh t) weigh.Pre
 
--- src/lib.rt:151:9
+-- src/lib.rt:182:9
 link-node-at-requires : (t : ℕ) → link-lts.Need-node-at-requires (
   node-at-reads.Asked,
   node-at-reads.Learnt,
@@ -77,7 +90,7 @@ link-node-at-requires : (t : ℕ) → link-lts.Need-node-at-requires (
 ) (link-at t) link.Post
 link-node-at-requires t c κs = tt
 
--- src/lib.rt:152:9
+-- src/lib.rt:183:9
 link-weigh-requires : (t : ℕ) → link-lts.Need-weigh-requires (
   node-at-reads.Asked,
   node-at-reads.Learnt,
@@ -108,7 +121,7 @@ link-weigh-requires t c κs = let s = c .before .before .before .before .before 
       ),
     )
 
--- src/lib.rt:153:9
+-- src/lib.rt:184:9
 link-weigh-requires-2 : (t : ℕ) → link-lts.Need-weigh-requires-2 (
   node-at-reads.Asked,
   node-at-reads.Learnt,
@@ -140,7 +153,7 @@ link-weigh-requires-2 t c κs = let s = c .before .before .before .before .befor
       ),
     )
 
--- src/lib.rt:154:9
+-- src/lib.rt:185:9
 link-clause-of-requires : (t : ℕ) → link-lts.Need-clause-of-requires (
   node-at-reads.Asked,
   node-at-reads.Learnt,
@@ -173,7 +186,7 @@ link-clause-of-requires t c κs = let s = c .before .before .before .before .bef
       d .counted,
     )
 
--- src/lib.rt:131:1
+-- src/lib.rt:162:1
 link-same-length : (t : ℕ) → link-lts.Need-same-length (
   node-at-reads.Asked,
   node-at-reads.Learnt,
@@ -184,7 +197,7 @@ link-same-length : (t : ℕ) → link-lts.Need-same-length (
 ) (link-at t) link.Post
 link-same-length t c = c .before .before .before .before .before .before .before .before .weigh2 .kept .1 .1 .1 .0 ∙ c .before .before .before .before .before .before .before .before .before .before .before .before .before .before .before .before .weigh .kept .1 .1 .1 .0
 
--- src/lib.rt:131:1
+-- src/lib.rt:162:1
 link-same-length-2 : (t : ℕ) → link-lts.Need-same-length-2 (
   node-at-reads.Asked,
   node-at-reads.Learnt,
@@ -195,7 +208,7 @@ link-same-length-2 : (t : ℕ) → link-lts.Need-same-length-2 (
 ) (link-at t) link.Post
 link-same-length-2 t c = c .before .before .before .before .before .before .before .before .weigh2 .kept .1 .1 .1 .1 .0 ∙ c .before .before .before .before .before .before .before .before .before .before .before .before .before .before .before .before .weigh .kept .1 .1 .1 .1 .0
 
--- src/lib.rt:131:1
+-- src/lib.rt:162:1
 link-same-length-3 : (t : ℕ) → link-lts.Need-same-length-3 (
   node-at-reads.Asked,
   node-at-reads.Learnt,
@@ -206,7 +219,7 @@ link-same-length-3 : (t : ℕ) → link-lts.Need-same-length-3 (
 ) (link-at t) link.Post
 link-same-length-3 t c = c .before .clause-of .kept .1 .1 .1 .0 ∙ c .before .before .before .before .before .before .before .before .weigh2 .kept .1 .1 .1 .1 .1 .0 ∙ c .before .before .before .before .before .before .before .before .before .before .before .before .before .before .before .before .weigh .kept .1 .1 .1 .1 .1 .0
 
--- src/lib.rt:131:1
+-- src/lib.rt:162:1
 link-returns : (t : ℕ) → link-lts.Need-returns (
   node-at-reads.Asked,
   node-at-reads.Learnt,
@@ -233,63 +246,275 @@ link-returns t c = let s = c .before .before .before .before .before .before .be
       fit = fit-words _ _ _ _ (c .before .before .before .before .before .before .before .before .weigh2 .result) (d2 .fit) (q .result) (q .ensures .counted);
     }
 
+-- src/lib.rt:120:9
+links-pairs-requires : (t : ℕ) → links-lts.Need-pairs-requires (
+  pairs-below t,
+  pairs.Post,
+  left-count-reads.Asked,
+  left-count-reads.Learnt,
+  way-at-reads.Asked,
+  way-at-reads.Learnt,
+  link-below t,
+  link.Post,
+) (links-at t) links.Post
+links-pairs-requires t c κs = let s = c .before .before .before .before .before .before in
+    let b = s .pre .1 .1 .1 .0 in
+    let z = s .pre .1 .1 .1 .1 in
+    let g = s .pre .1 .1 .0 (s .args .id) (b .below) (b .general) in (
+      omega (arith, s .pre .0),
+      (
+        s .pre .1 .0,
+        (
+          s .pre .1 .1 .0,
+          (
+            b,
+            record { fuel = z .fuel; enough = z .enough; within = pairs-ends (weigh lay (z .fuel) (s .args .nodes .now) (s .args .inputs .now) (s .args .keys .now)) (s .args .nodes .now) (s .args .inputs .now) (s .args .keys .now) (s .args .id) (s .args .at) (s .args .v) (state (s .args .lits .now) (s .args .marks .now) (s .args .row .now) (s .args .run)) _ _ _ refl refl refl (mono-weigh (z .fuel) (s .args .nodes .now) (s .args .inputs .now) (s .args .keys .now)) (z .within) },
+          ),
+        ),
+      ),
+    )
+
+-- src/lib.rt:121:9
+links-left-count-requires : (t : ℕ) → links-lts.Need-left-count-requires (
+  pairs-below t,
+  pairs.Post,
+  left-count-reads.Asked,
+  left-count-reads.Learnt,
+  way-at-reads.Asked,
+  way-at-reads.Learnt,
+  link-below t,
+  link.Post,
+) (links-at t) links.Post
+links-left-count-requires t c κs = tt
+
+-- src/lib.rt:122:9
+links-way-at-requires : (t : ℕ) → links-lts.Need-way-at-requires (
+  pairs-below t,
+  pairs.Post,
+  left-count-reads.Asked,
+  left-count-reads.Learnt,
+  way-at-reads.Asked,
+  way-at-reads.Learnt,
+  link-below t,
+  link.Post,
+) (links-at t) links.Post
+links-way-at-requires t c κs = let s = c .before .before .before .before .before .before .before .before .before .before .before .before in
+    let b = s .pre .1 .1 .1 .0 in
+    let z = s .pre .1 .1 .1 .1 in
+    let g = s .pre .1 .1 .0 (s .args .id) (b .below) (b .general) in
+    (g .muls, (g .left-sorted, g .right-sorted))
+
+-- src/lib.rt:123:9
+links-link-requires : (t : ℕ) → links-lts.Need-link-requires (
+  pairs-below t,
+  pairs.Post,
+  left-count-reads.Asked,
+  left-count-reads.Learnt,
+  way-at-reads.Asked,
+  way-at-reads.Learnt,
+  link-below t,
+  link.Post,
+) (links-at t) links.Post
+links-link-requires t c κs = let s = c .before .before .before .before .before .before .before .before .before .before .before .before .before .before .before .before in
+    let b = s .pre .1 .1 .1 .0 in
+    let z = s .pre .1 .1 .1 .1 in
+    let g = s .pre .1 .1 .0 (s .args .id) (b .below) (b .general) in
+    let u = c .before .before .before .before .before .before .before .before .before .pairs in
+    let len = u .kept .1 .1 .1 .0 in (
+      omega (arith, s .pre .0),
+      (
+        u .ensures .fit,
+        (
+          s .pre .1 .1 .0,
+          (
+            way-ok (s .args .nodes .now) (s .args .keys .now) _ (s .args .id) (s .args .at) (s .args .v) _ (c .before .before .before .way-at .result) (record { below = b .below; general = b .general; inside = omega (arith, b .inside, len) }) (c .before .before .before .way-at .ensures),
+            record { fuel = z .fuel; enough = z .enough; within = left-ends (weigh lay (z .fuel) (s .args .nodes .now) (s .args .inputs .now) (s .args .keys .now)) (s .args .nodes .now) (s .args .inputs .now) (s .args .keys .now) (s .args .id) (s .args .at) (s .args .v) (state (s .args .lits .now) (s .args .marks .now) (s .args .row .now) (s .args .run)) (c .before .before .before .before .left-count .result) (c .before .before .before .way-at .result) _ (c .before .before .before .before .left-count .ensures) (c .before .before .before .way-at .ensures) refl (mono-weigh (z .fuel) (s .args .nodes .now) (s .args .inputs .now) (s .args .keys .now)) (z .within) _ (u .ensures .is (z .fuel) (z .enough)) },
+          ),
+        ),
+      ),
+    )
+
+-- src/lib.rt:124:40
+links-add-way-at : (t : ℕ) → links-lts.Need-add-way-at (
+  pairs-below t,
+  pairs.Post,
+  left-count-reads.Asked,
+  left-count-reads.Learnt,
+  way-at-reads.Asked,
+  way-at-reads.Learnt,
+  link-below t,
+  link.Post,
+) (links-at t) links.Post
+links-add-way-at t c = let s = c .before .before .before .before .before .before .before .before .before .before .before .before .before .before .before .before .before .before .before .before .before in
+    let b = s .pre .1 .1 .1 .0 in
+    let z = s .pre .1 .1 .1 .1 in
+    let g = s .pre .1 .1 .0 (s .args .id) (b .below) (b .general) in
+    omega (arith, c .before .before .before .before .before .before .before .before .before .left-count .ensures, g .few)
+
+-- src/lib.rt:124:9
+links-way-at-requires-2 : (t : ℕ) → links-lts.Need-way-at-requires-2 (
+  pairs-below t,
+  pairs.Post,
+  left-count-reads.Asked,
+  left-count-reads.Learnt,
+  way-at-reads.Asked,
+  way-at-reads.Learnt,
+  link-below t,
+  link.Post,
+) (links-at t) links.Post
+links-way-at-requires-2 t c κs = let s = c .before .before .before .before .before .before .before .before .before .before .before .before .before .before .before .before .before .before .before .before .before in
+    let b = s .pre .1 .1 .1 .0 in
+    let z = s .pre .1 .1 .1 .1 in
+    let g = s .pre .1 .1 .0 (s .args .id) (b .below) (b .general) in
+    (g .muls, (g .left-sorted, g .right-sorted))
+
+-- src/lib.rt:125:5
+links-link-requires-2 : (t : ℕ) → links-lts.Need-link-requires-2 (
+  pairs-below t,
+  pairs.Post,
+  left-count-reads.Asked,
+  left-count-reads.Learnt,
+  way-at-reads.Asked,
+  way-at-reads.Learnt,
+  link-below t,
+  link.Post,
+) (links-at t) links.Post
+links-link-requires-2 t c κs = let s = c .before .before .before .before .before .before .before .before .before .before .before .before .before .before .before .before .before .before .before .before .before .before .before .before .before in
+    let b = s .pre .1 .1 .1 .0 in
+    let z = s .pre .1 .1 .1 .1 in
+    let g = s .pre .1 .1 .0 (s .args .id) (b .below) (b .general) in
+    let u = c .before .before .before .before .before .before .before .before .before .before .before .before .before .before .before .before .before .before .pairs in
+    let d = c .before .before .before .before .before .before .before .before .link in
+    let len = d .kept .1 .1 .1 .0 ∙ u .kept .1 .1 .1 .0 in (
+      omega (arith, s .pre .0),
+      (
+        d .ensures .fit,
+        (
+          s .pre .1 .1 .0,
+          (
+            way-ok (s .args .nodes .now) (s .args .keys .now) _ (s .args .id) (s .args .at) (s .args .v) _ (c .before .before .before .way-at2 .result) (record { below = b .below; general = b .general; inside = omega (arith, b .inside, len) }) (c .before .before .before .way-at2 .ensures),
+            record { fuel = z .fuel; enough = z .enough; within = right-ends (weigh lay (z .fuel) (s .args .nodes .now) (s .args .inputs .now) (s .args .keys .now)) (s .args .nodes .now) (s .args .inputs .now) (s .args .keys .now) (s .args .id) (s .args .at) (s .args .v) (state (s .args .lits .now) (s .args .marks .now) (s .args .row .now) (s .args .run)) (c .before .before .before .before .before .before .before .before .before .before .before .before .before .left-count .result) (c .before .before .before .before .before .before .before .before .before .before .before .before .way-at .result) (c .before .before .before .way-at2 .result) (c .before .before .before .before .before .before .before .before .before .before .before .before .before .left-count .ensures) (c .before .before .before .before .before .before .before .before .before .before .before .before .way-at .ensures) (c .before .before .before .way-at2 .ensures) (z .within) _ _ (u .ensures .is (z .fuel) (z .enough)) (d .ensures .is (z .fuel) (z .enough)) },
+          ),
+        ),
+      ),
+    )
+
+-- src/lib.rt:100:1
+links-same-length : (t : ℕ) → links-lts.Need-same-length (
+  pairs-below t,
+  pairs.Post,
+  left-count-reads.Asked,
+  left-count-reads.Learnt,
+  way-at-reads.Asked,
+  way-at-reads.Learnt,
+  link-below t,
+  link.Post,
+) (links-at t) links.Post
+links-same-length t c = c .before .before .before .before .link2 .kept .1 .1 .1 .0 ∙ c .before .before .before .before .before .before .before .before .before .before .before .before .before .link .kept .1 .1 .1 .0 ∙ c .before .before .before .before .before .before .before .before .before .before .before .before .before .before .before .before .before .before .before .before .before .before .before .pairs .kept .1 .1 .1 .0
+
+-- src/lib.rt:100:1
+links-same-length-2 : (t : ℕ) → links-lts.Need-same-length-2 (
+  pairs-below t,
+  pairs.Post,
+  left-count-reads.Asked,
+  left-count-reads.Learnt,
+  way-at-reads.Asked,
+  way-at-reads.Learnt,
+  link-below t,
+  link.Post,
+) (links-at t) links.Post
+links-same-length-2 t c = c .before .before .before .before .link2 .kept .1 .1 .1 .1 .0 ∙ c .before .before .before .before .before .before .before .before .before .before .before .before .before .link .kept .1 .1 .1 .1 .0 ∙ c .before .before .before .before .before .before .before .before .before .before .before .before .before .before .before .before .before .before .before .before .before .before .before .pairs .kept .1 .1 .1 .1 .0
+
+-- src/lib.rt:100:1
+links-same-length-3 : (t : ℕ) → links-lts.Need-same-length-3 (
+  pairs-below t,
+  pairs.Post,
+  left-count-reads.Asked,
+  left-count-reads.Learnt,
+  way-at-reads.Asked,
+  way-at-reads.Learnt,
+  link-below t,
+  link.Post,
+) (links-at t) links.Post
+links-same-length-3 t c = c .before .before .before .before .link2 .kept .1 .1 .1 .1 .1 .0 ∙ c .before .before .before .before .before .before .before .before .before .before .before .before .before .link .kept .1 .1 .1 .1 .1 .0 ∙ c .before .before .before .before .before .before .before .before .before .before .before .before .before .before .before .before .before .before .before .before .before .before .before .pairs .kept .1 .1 .1 .1 .1 .0
+
+-- src/lib.rt:100:1
+links-returns : (t : ℕ) → links-lts.Need-returns (
+  pairs-below t,
+  pairs.Post,
+  left-count-reads.Asked,
+  left-count-reads.Learnt,
+  way-at-reads.Asked,
+  way-at-reads.Learnt,
+  link-below t,
+  link.Post,
+) (links-at t) links.Post
+links-returns t c = let s = c .before .before .before .before .before .before .before .before .before .before .before .before .before .before .before .before .before .before .before .before .before .before .before .before .before .before .before .before .before .before in
+    let u = c .before .before .before .before .before .before .before .before .before .before .before .before .before .before .before .before .before .before .before .before .before .before .before .pairs .ensures in
+    let d = c .before .before .before .before .before .before .before .before .before .before .before .before .before .link .ensures in
+    let d2 = c .before .before .before .before .link2 .ensures in
+    record { is = λ f h. alone-is (weigh lay f (s .args .nodes .now) (s .args .inputs .now) (s .args .keys .now)) (s .args .nodes .now) (s .args .inputs .now) (s .args .keys .now) (s .args .id) (s .args .at) (s .args .v) (state (s .args .lits .now) (s .args .marks .now) (s .args .row .now) (s .args .run)) (c .before .before .before .before .before .before .before .before .before .before .before .before .before .before .before .before .before .before .left-count .result) (c .before .before .before .before .before .before .before .before .before .before .before .before .before .before .before .before .before .way-at .result) (c .before .before .before .before .before .before .before .before .way-at2 .result) (c .before .before .before .before .before .before .before .before .before .before .before .before .before .before .before .before .before .before .left-count .ensures) (c .before .before .before .before .before .before .before .before .before .before .before .before .before .before .before .before .before .way-at .ensures) (c .before .before .before .before .before .before .before .before .way-at2 .ensures) _ _ _ (u .is f h) (d .is f h) (d2 .is f h); fit = d2 .fit }
+
 abbrev each : ℕ → List ℕ → List ℤ → List ℕ → ℕ → ℕ → ℕ → ℕ → St Row → St Row
 each f ns ins keys k at v j t = linkOf lay (weigh lay f ns ins keys) ns ins k at (wayOf ns keys k v j) t
 
-abbrev links-Inv-loop : links-lts.InvT-loop
-links-Inv-loop nodes inputs keys lits₀ marks₀ row₀ id at v end k₀ r₀ lits marks row k r =
+abbrev pairs-Inv-loop : pairs-lts.InvT-loop
+pairs-Inv-loop nodes inputs keys lits₀ marks₀ row₀ id at v to k₀ r₀ lits marks row k r =
     Fit nodes inputs lits marks r × (length lits ≡ length lits₀) × (length marks ≡ length marks₀) × (length row ≡ length row₀)
-    × ((f : ℕ) → id ≤ f → span k end (each f nodes inputs keys id at v) (state lits marks row r) ≡ linksOf lay (weigh lay f nodes inputs keys) nodes inputs keys id at v (state lits₀ marks₀ row₀ r₀))
+    × ((f : ℕ) → id ≤ f → span k to (each f nodes inputs keys id at v) (state lits marks row r) ≡ pairsOf (weigh lay f nodes inputs keys) nodes inputs keys id at v (state lits₀ marks₀ row₀ r₀))
 
-abbrev links-μ-loop : links-lts.MeasureT-loop
-links-μ-loop nodes inputs keys lits₀ marks₀ row₀ id at v end k₀ r₀ lits marks row k r = end - k
+abbrev pairs-μ-loop : pairs-lts.MeasureT-loop
+pairs-μ-loop nodes inputs keys lits₀ marks₀ row₀ id at v to k₀ r₀ lits marks row k r = to - k
 
--- src/lib.rt:119:9
-links-turns-requires : (t : ℕ) → links-lts.Need-turns-requires (
-  turns-reads.Asked,
-  turns-reads.Learnt,
+-- src/lib.rt:149:9
+pairs-window-requires : (t : ℕ) → pairs-lts.Need-window-requires (
+  window-reads.Asked,
+  window-reads.Learnt,
   way-at-reads.Asked,
   way-at-reads.Learnt,
   link-below t,
   link.Post,
-) (links-at t) links.Post links-Inv-loop links-μ-loop
-links-turns-requires t c κs = let s = c .before .before .before in s .pre .1 .1 .0 (s .args .id) (s .pre .1 .1 .1 .0 .below) (s .pre .1 .1 .1 .0 .general) .few
+) (pairs-at t) pairs.Post pairs-Inv-loop pairs-μ-loop
+pairs-window-requires t c κs = let s = c .before .before .before in
+    let g = s .pre .1 .1 .0 (s .args .id) (s .pre .1 .1 .1 .0 .below) (s .pre .1 .1 .1 .0 .general) in
+    (g .muls, g .left-sorted)
 
--- src/lib.rt:122:5
-links-loop-holds : (t : ℕ) → links-lts.Need-loop-holds (
-  turns-reads.Asked,
-  turns-reads.Learnt,
+-- src/lib.rt:153:5
+pairs-loop-holds : (t : ℕ) → pairs-lts.Need-loop-holds (
+  window-reads.Asked,
+  window-reads.Learnt,
   way-at-reads.Asked,
   way-at-reads.Learnt,
   link-below t,
   link.Post,
-) (links-at t) links.Post links-Inv-loop links-μ-loop
-links-loop-holds t c = let s = c .before .before .before .before in
-    (s .pre .1 .0, refl, refl, refl, λ f h. links-is (weigh lay f (s .args .nodes .now) (s .args .inputs .now) (s .args .keys .now)) (s .args .nodes .now) (s .args .inputs .now) (s .args .keys .now) (s .args .id) (s .args .at) (s .args .v) _ (state (s .args .lits .now) (s .args .marks .now) (s .args .row .now) (s .args .run)) (c .turns .ensures))
+) (pairs-at t) pairs.Post pairs-Inv-loop pairs-μ-loop
+pairs-loop-holds t c = let s = c .before .before .before .before in
+    let g = s .pre .1 .1 .0 (s .args .id) (s .pre .1 .1 .1 .0 .below) (s .pre .1 .1 .1 .0 .general) in
+    (s .pre .1 .0, refl, refl, refl, λ f h. pairs-start f (s .args .nodes .now) (s .args .inputs .now) (s .args .keys .now) (s .args .id) (s .args .at) (s .args .v) (c .window .result) (state (s .args .lits .now) (s .args .marks .now) (s .args .row .now) (s .args .run)) (c .window .ensures) (g .right-sorted))
 
--- src/lib.rt:123:13
-links-way-at-requires : (t : ℕ) → links-lts.Need-way-at-requires (
-  turns-reads.Asked,
-  turns-reads.Learnt,
+-- src/lib.rt:154:13
+pairs-way-at-requires : (t : ℕ) → pairs-lts.Need-way-at-requires (
+  window-reads.Asked,
+  window-reads.Learnt,
   way-at-reads.Asked,
   way-at-reads.Learnt,
   link-below t,
   link.Post,
-) (links-at t) links.Post links-Inv-loop links-μ-loop
-links-way-at-requires t c κs = let s = c .before .before .before .before .before .before in
+) (pairs-at t) pairs.Post pairs-Inv-loop pairs-μ-loop
+pairs-way-at-requires t c κs = let s = c .before .before .before .before .before .before in
     let g = s .pre .1 .1 .0 (s .args .id) (s .pre .1 .1 .1 .0 .below) (s .pre .1 .1 .1 .0 .general) in
     (g .muls, (g .left-sorted, g .right-sorted))
 
--- src/lib.rt:124:9
-links-link-requires : (t : ℕ) → links-lts.Need-link-requires (
-  turns-reads.Asked,
-  turns-reads.Learnt,
+-- src/lib.rt:155:9
+pairs-link-requires : (t : ℕ) → pairs-lts.Need-link-requires (
+  window-reads.Asked,
+  window-reads.Learnt,
   way-at-reads.Asked,
   way-at-reads.Learnt,
   link-below t,
   link.Post,
-) (links-at t) links.Post links-Inv-loop links-μ-loop
-links-link-requires t c κs = let s = c .before .before .before .before .before .before .before .before .before .before in
+) (pairs-at t) pairs.Post pairs-Inv-loop pairs-μ-loop
+pairs-link-requires t c κs = let s = c .before .before .before .before .before .before .before .before .before .before in
     let l = c .before .before .before .before .before .loop in
     let b = s .pre .1 .1 .1 .0 in
     let z = s .pre .1 .1 .1 .1 in (
@@ -310,38 +535,40 @@ links-link-requires t c κs = let s = c .before .before .before .before .before 
       ),
     )
 
--- src/lib.rt:125:9
-links-add-k : (t : ℕ) → links-lts.Need-add-k (
-  turns-reads.Asked,
-  turns-reads.Learnt,
+-- src/lib.rt:156:9
+pairs-add-k : (t : ℕ) → pairs-lts.Need-add-k (
+  window-reads.Asked,
+  window-reads.Learnt,
   way-at-reads.Asked,
   way-at-reads.Learnt,
   link-below t,
   link.Post,
-) (links-at t) links.Post links-Inv-loop links-μ-loop
-links-add-k t c = omega (arith, c .before .before .before .before .before .before .before .before .before .loop-test .taken)
+) (pairs-at t) pairs.Post pairs-Inv-loop pairs-μ-loop
+pairs-add-k t c = let s = c .before .before .before .before .before .before .before .before .before .before .before .before .before .before .before in
+    let g = s .pre .1 .1 .0 (s .args .id) (s .pre .1 .1 .1 .0 .below) (s .pre .1 .1 .1 .0 .general) in
+    omega (arith, c .before .before .before .before .before .before .before .before .before .loop-test .taken, c .before .before .before .before .before .before .before .before .before .before .before .window .ensures .high .inside, g .few)
 
--- src/lib.rt:122:5
-links-loop-less : (t : ℕ) → links-lts.Need-loop-less (
-  turns-reads.Asked,
-  turns-reads.Learnt,
+-- src/lib.rt:153:5
+pairs-loop-less : (t : ℕ) → pairs-lts.Need-loop-less (
+  window-reads.Asked,
+  window-reads.Learnt,
   way-at-reads.Asked,
   way-at-reads.Learnt,
   link-below t,
   link.Post,
-) (links-at t) links.Post links-Inv-loop links-μ-loop
-links-loop-less t c = omega (arith, c .before .before .before .before .before .before .before .before .before .loop-test .taken)
+) (pairs-at t) pairs.Post pairs-Inv-loop pairs-μ-loop
+pairs-loop-less t c = omega (arith, c .before .before .before .before .before .before .before .before .before .loop-test .taken)
 
--- src/lib.rt:122:5
-links-loop-again : (t : ℕ) → links-lts.Need-loop-again (
-  turns-reads.Asked,
-  turns-reads.Learnt,
+-- src/lib.rt:153:5
+pairs-loop-again : (t : ℕ) → pairs-lts.Need-loop-again (
+  window-reads.Asked,
+  window-reads.Learnt,
   way-at-reads.Asked,
   way-at-reads.Learnt,
   link-below t,
   link.Post,
-) (links-at t) links.Post links-Inv-loop links-μ-loop
-links-loop-again t c = let s = c .before .before .before .before .before .before .before .before .before .before .before .before .before .before .before in
+) (pairs-at t) pairs.Post pairs-Inv-loop pairs-μ-loop
+pairs-loop-again t c = let s = c .before .before .before .before .before .before .before .before .before .before .before .before .before .before .before in
     let l = c .before .before .before .before .before .before .before .before .before .before .loop in
     let d = c .before .before .before .before .link in (
       d .ensures .fit,
@@ -352,53 +579,53 @@ links-loop-again t c = let s = c .before .before .before .before .before .before
           (d .ensures .is f h ∙ ap (λ (p : Way). linkOf lay (weigh lay f (s .args .nodes .now) (s .args .inputs .now) (s .args .keys .now)) (s .args .nodes .now) (s .args .inputs .now) (s .args .id) (s .args .at) p (state (l .lits) (l .marks) (l .row) (l .r))) (c .before .before .before .before .before .before .before .before .way-at .ensures)) (l .inv .4 f h),
     )
 
--- src/lib.rt:99:1
-links-same-length : (t : ℕ) → links-lts.Need-same-length (
-  turns-reads.Asked,
-  turns-reads.Learnt,
+-- src/lib.rt:129:1
+pairs-same-length : (t : ℕ) → pairs-lts.Need-same-length (
+  window-reads.Asked,
+  window-reads.Learnt,
   way-at-reads.Asked,
   way-at-reads.Learnt,
   link-below t,
   link.Post,
-) (links-at t) links.Post links-Inv-loop links-μ-loop
-links-same-length t c = c .before .loop .inv .1
+) (pairs-at t) pairs.Post pairs-Inv-loop pairs-μ-loop
+pairs-same-length t c = c .before .loop .inv .1
 
--- src/lib.rt:99:1
-links-same-length-2 : (t : ℕ) → links-lts.Need-same-length-2 (
-  turns-reads.Asked,
-  turns-reads.Learnt,
+-- src/lib.rt:129:1
+pairs-same-length-2 : (t : ℕ) → pairs-lts.Need-same-length-2 (
+  window-reads.Asked,
+  window-reads.Learnt,
   way-at-reads.Asked,
   way-at-reads.Learnt,
   link-below t,
   link.Post,
-) (links-at t) links.Post links-Inv-loop links-μ-loop
-links-same-length-2 t c = c .before .loop .inv .2
+) (pairs-at t) pairs.Post pairs-Inv-loop pairs-μ-loop
+pairs-same-length-2 t c = c .before .loop .inv .2
 
--- src/lib.rt:99:1
-links-same-length-3 : (t : ℕ) → links-lts.Need-same-length-3 (
-  turns-reads.Asked,
-  turns-reads.Learnt,
+-- src/lib.rt:129:1
+pairs-same-length-3 : (t : ℕ) → pairs-lts.Need-same-length-3 (
+  window-reads.Asked,
+  window-reads.Learnt,
   way-at-reads.Asked,
   way-at-reads.Learnt,
   link-below t,
   link.Post,
-) (links-at t) links.Post links-Inv-loop links-μ-loop
-links-same-length-3 t c = c .before .loop .inv .3
+) (pairs-at t) pairs.Post pairs-Inv-loop pairs-μ-loop
+pairs-same-length-3 t c = c .before .loop .inv .3
 
--- src/lib.rt:99:1
-links-returns : (t : ℕ) → links-lts.Need-returns (
-  turns-reads.Asked,
-  turns-reads.Learnt,
+-- src/lib.rt:129:1
+pairs-returns : (t : ℕ) → pairs-lts.Need-returns (
+  window-reads.Asked,
+  window-reads.Learnt,
   way-at-reads.Asked,
   way-at-reads.Learnt,
   link-below t,
   link.Post,
-) (links-at t) links.Post links-Inv-loop links-μ-loop
-links-returns t c = let s = c .before .before .before .before .before .before in
+) (pairs-at t) pairs.Post pairs-Inv-loop pairs-μ-loop
+pairs-returns t c = let s = c .before .before .before .before .before .before in
     let l = c .before .loop in
     record { is = λ f h. span-end (l .k) _ (each f (s .args .nodes .now) (s .args .inputs .now) (s .args .keys .now) (s .args .id) (s .args .at) (s .args .v)) (state (l .lits) (l .marks) (l .row) (l .r)) _ (c .loop-test .left) (l .inv .4 f h); fit = l .inv .0 }
 
--- src/lib.rt:75:9
+-- src/lib.rt:76:9
 weigh-job-at-requires : (t : ℕ) → weigh-lts.Need-job-at-requires (
   job-at-reads.Asked,
   job-at-reads.Learnt,
@@ -413,7 +640,7 @@ weigh-job-at-requires t c κs = let s = c .before .before .before .before in
     let b = s .pre .1 .1 .1 .0 in
     rw (s .pre .1 .0 .same) (place-at (s .args .nodes .now) _ _ (s .args .id) (s .pre .1 .0 .ok) (b .below) (s .args .y) (b .out))
 
--- src/lib.rt:77:25
+-- src/lib.rt:78:25
 weigh-enum-told : (t : ℕ) → weigh-lts.Need-enum-told (
   job-at-reads.Asked,
   job-at-reads.Learnt,
@@ -426,7 +653,7 @@ weigh-enum-told : (t : ℕ) → weigh-lts.Need-enum-told (
 ) (weigh-at t) weigh.Post
 weigh-enum-told t c = search needs
 
--- src/lib.rt:78:20
+-- src/lib.rt:79:20
 weigh-enum-known-j : (t : ℕ) → weigh-lts.Need-enum-known-j (
   job-at-reads.Asked,
   job-at-reads.Learnt,
@@ -439,7 +666,7 @@ weigh-enum-known-j : (t : ℕ) → weigh-lts.Need-enum-known-j (
 ) (weigh-at t) weigh.Post
 weigh-enum-known-j t c = search needs
 
--- src/lib.rt:83:13
+-- src/lib.rt:84:13
 weigh-define-unweighted-rec-requires : (t : ℕ) → weigh-lts.Need-define-unweighted-rec-requires (
   job-at-reads.Asked,
   job-at-reads.Learnt,
@@ -463,7 +690,7 @@ weigh-define-unweighted-rec-requires t c κs = let s = c .before .before .before
       ),
     )
 
--- src/lib.rt:85:18
+-- src/lib.rt:86:18
 weigh-enum-known-j-2 : (t : ℕ) → weigh-lts.Need-enum-known-j-2 (
   job-at-reads.Asked,
   job-at-reads.Learnt,
@@ -476,7 +703,7 @@ weigh-enum-known-j-2 : (t : ℕ) → weigh-lts.Need-enum-known-j-2 (
 ) (weigh-at t) weigh.Post
 weigh-enum-known-j-2 t c = search needs
 
--- src/lib.rt:86:17
+-- src/lib.rt:87:17
 weigh-take-lit-requires : (t : ℕ) → weigh-lts.Need-take-lit-requires (
   job-at-reads.Asked,
   job-at-reads.Learnt,
@@ -496,7 +723,7 @@ weigh-take-lit-requires t c κs = let s = c .before .before .before .before .bef
     let small = taken-next (s .args .lits .now) (s .args .marks .now) (s .args .row .now) (s .args .run) _ (take-ends (s .args .nodes .now) (s .args .inputs .now) (s .args .keys .now) (s .args .id) (s .args .y) (state (s .args .lits .now) (s .args .marks .now) (s .args .row .now) (s .args .run)) _ _ e (z .fuel) (z .enough) (z .within)) in
     (k .1, small)
 
--- src/lib.rt:91:17
+-- src/lib.rt:92:17
 weigh-links-requires : (t : ℕ) → weigh-lts.Need-links-requires (
   job-at-reads.Asked,
   job-at-reads.Learnt,
@@ -530,7 +757,7 @@ weigh-links-requires t c κs = let s = c .before .before .before .before .before
       ),
     )
 
--- src/lib.rt:92:13
+-- src/lib.rt:93:13
 weigh-slice-write-marks : (t : ℕ) → weigh-lts.Need-slice-write-marks (
   job-at-reads.Asked,
   job-at-reads.Learnt,
@@ -549,7 +776,7 @@ weigh-slice-write-marks t c = let s = c .before .before .before .before .before 
     let k = sum-ok (s .args .nodes .now) (s .args .keys .now) (s .args .marks .now) _ (s .args .id) (s .args .y) here _ _ e in
     omega (arith, k .1, s .pre .1 .0 .same, c .before .before .before .before .links .kept .1 .1 .1 .1 .0)
 
--- src/lib.rt:56:1
+-- src/lib.rt:57:1
 weigh-same-length : (t : ℕ) → weigh-lts.Need-same-length (
   job-at-reads.Asked,
   job-at-reads.Learnt,
@@ -562,7 +789,7 @@ weigh-same-length : (t : ℕ) → weigh-lts.Need-same-length (
 ) (weigh-at t) weigh.Post
 weigh-same-length t c = search needs
 
--- src/lib.rt:56:1
+-- src/lib.rt:57:1
 weigh-returns : (t : ℕ) → weigh-lts.Need-returns (
   job-at-reads.Asked,
   job-at-reads.Learnt,
@@ -576,7 +803,7 @@ weigh-returns : (t : ℕ) → weigh-lts.Need-returns (
 weigh-returns t c = let s = c .before .before .before .before .before .before .before in
     record { is = nothing-is (s .args .nodes .now) (s .args .inputs .now) (s .args .keys .now) (s .args .id) (s .args .y) (state (s .args .lits .now) (s .args .marks .now) (s .args .row .now) (s .args .run)) (sym (c .before .before .job-at .ensures) ∙ c .enum-told .given .1); fit = s .pre .1 .0 }
 
--- src/lib.rt:56:1
+-- src/lib.rt:57:1
 weigh-same-length-2 : (t : ℕ) → weigh-lts.Need-same-length-2 (
   job-at-reads.Asked,
   job-at-reads.Learnt,
@@ -589,7 +816,7 @@ weigh-same-length-2 : (t : ℕ) → weigh-lts.Need-same-length-2 (
 ) (weigh-at t) weigh.Post
 weigh-same-length-2 t c = c .before .before .before .before .define-unweighted-rec .kept .1 .1 .0
 
--- src/lib.rt:56:1
+-- src/lib.rt:57:1
 weigh-same-length-3 : (t : ℕ) → weigh-lts.Need-same-length-3 (
   job-at-reads.Asked,
   job-at-reads.Learnt,
@@ -602,7 +829,7 @@ weigh-same-length-3 : (t : ℕ) → weigh-lts.Need-same-length-3 (
 ) (weigh-at t) weigh.Post
 weigh-same-length-3 t c = c .before .before .before .before .define-unweighted-rec .kept .1 .1 .1 .0
 
--- src/lib.rt:56:1
+-- src/lib.rt:57:1
 weigh-same-length-4 : (t : ℕ) → weigh-lts.Need-same-length-4 (
   job-at-reads.Asked,
   job-at-reads.Learnt,
@@ -615,7 +842,7 @@ weigh-same-length-4 : (t : ℕ) → weigh-lts.Need-same-length-4 (
 ) (weigh-at t) weigh.Post
 weigh-same-length-4 t c = c .before .before .before .before .define-unweighted-rec .kept .1 .1 .1 .1 .0
 
--- src/lib.rt:56:1
+-- src/lib.rt:57:1
 weigh-returns-2 : (t : ℕ) → weigh-lts.Need-returns-2 (
   job-at-reads.Asked,
   job-at-reads.Learnt,
@@ -631,7 +858,7 @@ weigh-returns-2 t c = let s = c .before .before .before .before .before .before 
     let e = sym (c .before .before .before .before .before .before .before .before .before .before .before .job-at .ensures) ∙ c .before .before .before .before .before .before .before .before .before .j .given .1 in
     record { is = λ f h. d .ensures .is f h ∙ count-is (s .args .nodes .now) (s .args .inputs .now) (s .args .keys .now) (s .args .id) (s .args .y) (state (s .args .lits .now) (s .args .marks .now) (s .args .row .now) (s .args .run)) _ e f h; fit = d .ensures .fit }
 
--- src/lib.rt:56:1
+-- src/lib.rt:57:1
 weigh-same-length-5 : (t : ℕ) → weigh-lts.Need-same-length-5 (
   job-at-reads.Asked,
   job-at-reads.Learnt,
@@ -644,7 +871,7 @@ weigh-same-length-5 : (t : ℕ) → weigh-lts.Need-same-length-5 (
 ) (weigh-at t) weigh.Post
 weigh-same-length-5 t c = c .before .before .before .before .links .kept .1 .1 .1 .0 ∙ c .before .before .before .before .before .before .before .before .before .take-lit .kept .0
 
--- src/lib.rt:56:1
+-- src/lib.rt:57:1
 weigh-same-length-6 : (t : ℕ) → weigh-lts.Need-same-length-6 (
   job-at-reads.Asked,
   job-at-reads.Learnt,
@@ -657,7 +884,7 @@ weigh-same-length-6 : (t : ℕ) → weigh-lts.Need-same-length-6 (
 ) (weigh-at t) weigh.Post
 weigh-same-length-6 t c = search needs
 
--- src/lib.rt:56:1
+-- src/lib.rt:57:1
 weigh-same-length-7 : (t : ℕ) → weigh-lts.Need-same-length-7 (
   job-at-reads.Asked,
   job-at-reads.Learnt,
@@ -670,7 +897,7 @@ weigh-same-length-7 : (t : ℕ) → weigh-lts.Need-same-length-7 (
 ) (weigh-at t) weigh.Post
 weigh-same-length-7 t c = c .before .before .before .before .links .kept .1 .1 .1 .1 .1 .0
 
--- src/lib.rt:56:1
+-- src/lib.rt:57:1
 weigh-returns-3 : (t : ℕ) → weigh-lts.Need-returns-3 (
   job-at-reads.Asked,
   job-at-reads.Learnt,
@@ -695,8 +922,8 @@ weigh-returns-3 t c = let s = c .before .before .before .before .before .before 
       fit = fit-marks _ _ _ (q .last .1 .1 .1 .1 .0) (q .result) (q .ensures .fit) (set (q .last .1 .1 .1 .1 .0) at 1) (length-set (q .last .1 .1 .1 .1 .0) at 1);
     }
 
-pub +link+links+weigh-spec : {M : Type 1} → statement M
-+link+links+weigh-spec = close μ-link μ-links μ-weigh (λ t. link-lts.spec (
+pub +link+links+pairs+weigh-spec : {M : Type 1} → statement M
++link+links+pairs+weigh-spec = close μ-link μ-links μ-pairs μ-weigh (λ t. link-lts.spec (
   node-at-reads.Asked,
   node-at-reads.Learnt,
   weigh-below t,
@@ -715,8 +942,10 @@ pub +link+links+weigh-spec : {M : Type 1} → statement M
     (link-same-length-3 t)
     (link-returns t))
     (λ t. links-lts.spec (
-      turns-reads.Asked,
-      turns-reads.Learnt,
+      pairs-below t,
+      pairs.Post,
+      left-count-reads.Asked,
+      left-count-reads.Learnt,
       way-at-reads.Asked,
       way-at-reads.Learnt,
       link-below t,
@@ -724,19 +953,40 @@ pub +link+links+weigh-spec : {M : Type 1} → statement M
     )
     (links-at t)
     links.Post
-    links-Inv-loop
-    links-μ-loop
-    (links-turns-requires t)
-    (links-loop-holds t)
+    (links-pairs-requires t)
+    (links-left-count-requires t)
     (links-way-at-requires t)
     (links-link-requires t)
-    (links-add-k t)
-    (links-loop-less t)
-    (links-loop-again t)
+    (links-add-way-at t)
+    (links-way-at-requires-2 t)
+    (links-link-requires-2 t)
     (links-same-length t)
     (links-same-length-2 t)
     (links-same-length-3 t)
     (links-returns t))
+    (λ t. pairs-lts.spec (
+      window-reads.Asked,
+      window-reads.Learnt,
+      way-at-reads.Asked,
+      way-at-reads.Learnt,
+      link-below t,
+      link.Post,
+    )
+    (pairs-at t)
+    pairs.Post
+    pairs-Inv-loop
+    pairs-μ-loop
+    (pairs-window-requires t)
+    (pairs-loop-holds t)
+    (pairs-way-at-requires t)
+    (pairs-link-requires t)
+    (pairs-add-k t)
+    (pairs-loop-less t)
+    (pairs-loop-again t)
+    (pairs-same-length t)
+    (pairs-same-length-2 t)
+    (pairs-same-length-3 t)
+    (pairs-returns t))
     λ t. weigh-lts.spec (
       job-at-reads.Asked,
       job-at-reads.Learnt,

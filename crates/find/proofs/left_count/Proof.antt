@@ -5,10 +5,10 @@ use Prim.Native.Nat.{ℕ, _+_, _-_, _*_, _/_, _%_, _<_, _≤_}
 use Rattle.paper.specs.Rows.{valueCount}
 use Rattle.paper.specs.declared.Node.{Node}
 use borrow.Author.Needs.{needs}
-use Rattle.find.proofs.turns.Statement.{statement}
-use Rattle.find.proofs.turns.Tie as tie
-use Rattle.find.proofs.turns.Reads as reads
-use Rattle.find.proofs.turns.Lts as lts
+use Rattle.find.proofs.left_count.Statement.{statement}
+use Rattle.find.proofs.left_count.Tie as tie
+use Rattle.find.proofs.left_count.Reads as reads
+use Rattle.find.proofs.left_count.Lts as lts
 use Rattle.rows.proofs.con_len.Reads as con-len-reads
 use Rattle.rows.proofs.node_at.Reads as node-at-reads
 
@@ -24,16 +24,10 @@ node-at-requires-2 c κs = search needs
 con-len-requires : tie.Need-con-len-requires
 con-len-requires c κs = search needs
 
--- src/lib.rt:125:5
-add-result : tie.Need-add-result
-add-result c = let s = c .before .before .before .before in
-    let e : c .con-len .result < 2 ^ 32 = rw (c .con-len .ensures ∙ ap valueCount (c .before .node-at2 .ensures), c .before .before .node-at .ensures) (s .pre) in
-    omega arith
-
 -- src/lib.rt:119:1
 returns : tie.Need-returns
 returns c = rw (c .con-len .ensures ∙ ap valueCount (c .before .node-at2 .ensures), c .before .before .node-at .ensures)
 
-pub turns-spec : {M : Type 1} → statement M
-turns-spec =
-    tie.close (tie.spec node-at-requires node-at-requires-2 con-len-requires add-result returns)
+pub left-count-spec : {M : Type 1} → statement M
+left-count-spec =
+    tie.close (tie.spec node-at-requires node-at-requires-2 con-len-requires returns)
