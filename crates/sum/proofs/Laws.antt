@@ -22,10 +22,10 @@ use Rattle.paper.specs.declared.Way.{Way}
 use Rattle.paper.specs.declared.Job.{Job}
 use Rattle.paper.specs.declared.Job.the-variants.{Nothing, Count, Sum}
 use Rattle.clause.specs.Row.{Row, at-row, lay}
-use Rattle.count.specs.Run.{outs, Ok, Here, Fit, state}
+use Rattle.count.specs.Run.{outs, Ok, Here, Fit, state, Ends}
 use Rattle.count.proofs.Laws.{fit-after, mono-define, next-by}
 use Rattle.find.specs.Ways.{Sorted, Place, Pairing}
-use Rattle.find.proofs.Laws.{count-leaf, count-general, way-within}
+use Rattle.find.proofs.Laws.{count-leaf, count-general, way-within, sum-ok}
 use Rattle.find.proofs.Pairs.{in-window, pairs-then-alone}
 use Rattle.sum.specs.Ways.{Spot, CellAt, WayAt, pairsOf}
 
@@ -197,6 +197,27 @@ module _ (ns : List ℕ) (ins : List ℤ) (keys : List ℕ) (k y : ℕ) (s : St 
 pub taken-next : (lits : List ℤ) (marks : List ℕ) (row : List ℤ) (u : Run) (at : ℕ) → takeAt lay at (state lits marks row u) .next ≤ 2 ^ 31 → takenNext lits at (u .next) ≤ 2 ^ 31
 unfolding takeAt
 taken-next lits marks row u at h = h
+
+-- what is asked where the literal is taken, and of the state with it where the ways begin
+module _ (ns : List ℕ) (ins : List ℤ) (keys : List ℕ) (k y : ℕ) (lits : List ℤ) (marks : List ℕ) (row : List ℤ) (u : Run) (f : Fit ns ins lits marks u) (b : Spot ns k y)
+    (at v : ℕ) (p : jobOf ns keys marks k y ≡ Sum at v) (fuel : ℕ) (h : k + 1 ≤ fuel) (within : weigh lay fuel ns ins keys k y (state lits marks row u) .next ≤ 2 ^ 31) where
+  here : (nodeAt ns k .kind ≡ 2) × (at < length lits)
+  here = sum-ok ns keys marks (length lits) k y (place-at ns (length ins) (length lits) k (f .ok) (b .below) y (b .out)) at v p
+
+  small : takenNext lits at (u .next) ≤ 2 ^ 31
+  small = taken-next lits marks row u at (take-ends ns ins keys k y (state lits marks row u) at v p fuel h within)
+
+  pub take-asks : (at < length lits) × (takenNext lits at (u .next) ≤ 2 ^ 31)
+  take-asks = (here .1, small)
+
+  pub links-asks : (l : List ℤ) (n : ℕ) → l ≡ takenLits lits at (u .next) → n ≡ takenNext lits at (u .next) → length l ≡ length lits
+      → Fit ns ins l marks (record { next = n; words = u .words }) × CellAt ns (length l) k at
+      × Ends k (λ g. linksOf lay (weigh lay g ns ins keys) ns ins keys k at v (state l marks row (record { next = n; words = u .words })))
+  links-asks l n a c d = (
+    fit-cell ns ins lits marks u f at (here .1) small l n a c,
+    record { below = b .below; general = here .0; inside = omega (arith, here .1) },
+    record { fuel = fuel - 1; enough = omega arith; within = links-ends ns ins keys k y (state lits marks row u) at v p fuel h within _ (take-is lits marks row u at l n a c) },
+  )
 
 -- ---- a way
 
