@@ -19,8 +19,8 @@ use Rattle.paper.specs.declared.Node.{Node}
 use Rattle.paper.specs.declared.Counters.{Counters}
 use Rattle.facts.specs.Members.{In, left-in, right-in, sum-in, in-at}
 use Rattle.facts.specs.Facts.{TableFacts, table-facts, NodeFacts, NodeFactsAt, a-leaf, a-dummy, a-unit, a-general, GeneralFacts, UnitFacts, leaf-outputs, dummy-outputs, unit-outputs, general-outputs, leaf-low}
-use Rattle.upkeep.specs.Value.{Ready, Sound}
-use Rattle.upkeep.proofs.Worth.{worth-leaf, worth-dummy, worth-inner}
+use Rattle.worth.specs.Value.{Ready, Sound}
+use Rattle.worth.proofs.Worth.{worth-leaf, worth-dummy, worth-inner}
 
 abbrev Bit : ℕ → Type 0
 Bit v = (v ≡ 0) ⊎ (v ≡ 1)
