@@ -1,8 +1,7 @@
-// The plan language: a line of bytes is read into a command, and bits and numbers of it are turned. Nothing here reads or
-// writes a file; the program over it does.
+// The plan language: its commands, the words and numbers of a line, and what a call says. Nothing here reads or writes a file;
+// the program over it does.
 mod answer;
 mod decimal;
-mod read;
 mod scan;
 
 pub use answer::added_said;
@@ -18,7 +17,7 @@ pub use decimal::with_sign;
 use paper::Counters;
 use paper::Pair;
 use paper::Semantics;
-pub use read::read_command;
+pub use scan::ended;
 pub use scan::next_word;
 pub use scan::text_of;
 

@@ -315,7 +315,7 @@ pub fn command_of(line: &[u8], len: usize) -> Command {
         return Command::Unreadable;
     }
     let n = within_bytes(len, line);
-    plans::read_command(&line[..n])
+    plans_read::read_command(&line[..n])
 }
 
 fn is_comment(line: &[u8]) -> bool {

@@ -1,19 +1,19 @@
-// A line is a name, then its words, then nothing more.
-use crate::Command;
-use crate::Counter;
-use crate::Lengths;
-use crate::Number;
-use crate::Part;
-use crate::Row;
-use crate::Signed;
-use crate::decimal::digits_only;
-use crate::decimal::plain_number;
-use crate::decimal::with_sign;
-use crate::scan::ended;
-use crate::scan::next_word;
-use crate::scan::text_of;
+// A line of a plan is read into a command: it is a name, then its words, then nothing more.
 use paper::Pair;
 use paper::Semantics;
+use plans::Command;
+use plans::Counter;
+use plans::Lengths;
+use plans::Number;
+use plans::Part;
+use plans::Row;
+use plans::Signed;
+use plans::digits_only;
+use plans::ended;
+use plans::next_word;
+use plans::plain_number;
+use plans::text_of;
+use plans::with_sign;
 
 // A number and where it ends.
 enum Next {
@@ -265,7 +265,7 @@ fn set_work(line: &[u8], w: Part) -> Command {
 }
 
 // An empty line, or a comment.
-pub fn passed_over(line: &[u8]) -> bool {
+fn passed_over(line: &[u8]) -> bool {
     if line.len() == 0 {
         return true;
     }
