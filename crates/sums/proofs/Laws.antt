@@ -35,7 +35,7 @@ use Rattle.find.specs.Ways.{Rising, Sorted}
 use Rattle.find.proofs.Laws.{count-dummy, count-unit, output-place}
 use Rattle.sum.specs.Ways.{GeneralOk, Generals}
 use Rattle.sum.proofs.Laws.{outs-few}
-use Rattle.sums.specs.Ready.{Ready, MetSum}
+use Rattle.meet.specs.Ready.{Ready, MetSum}
 
 -- ---- what a run asks
 
@@ -114,32 +114,6 @@ work-cells ints bytes c h =
     let a : max (c .cells) (c .nodes) ≤ ints = leb-true _ _ (and-left (leb (max (c .cells) (c .nodes)) ints) (leb (max (c .cells) (c .nodes)) bytes) h) in
     let b : max (c .cells) (c .nodes) ≤ bytes = leb-true _ _ (and-right (leb (max (c .cells) (c .nodes)) ints) (leb (max (c .cells) (c .nodes)) bytes) h) in
     (omega arith, omega arith)
-
--- ---- the dry run, on rows that are copies, and the run in earnest
-
-module _ (ns : List ℕ) (ins : List ℤ) (keys : List ℕ) (lits wl : List ℤ) (marks wm : List ℕ) (row : List ℤ) (id y : ℕ)
-    (small : length row ≤ 2 ^ 62) (few : length lits < 2 ^ 31) (a : wl ≡ lits) (b : wm ≡ marks) where
-  pub sum-dry-ends : Ends (id + 1) (λ f. weigh lay f ns ins keys id y (state wl wm row (dryRun row)))
-  sum-dry-ends = dry-ends (weighing ns ins keys id y) (weighing-runs ns ins keys id y) (id + 1) wl wm row small (rw a few)
-
-  pub sum-known : (ls : List ℤ) (ms : List ℕ) (r : List ℤ) (d : Run) → ((f : ℕ) → id + 1 ≤ f → state ls ms r d ≡ weigh lay f ns ins keys id y (state wl wm row (dryRun row)))
-      → (n : ℕ) → 1 ≤ n → Known (weighRun ns ins keys lits marks n id y) n row r d
-  unfolding weighRun
-  sum-known ls ms r d is n h =
-      known (weighing ns ins keys id y) (weighing-runs ns ins keys id y) (id + 1) lits marks row small few ls ms r d
-      (λ f l. is f l ∙ ap₂ (λ (x : List ℤ) (z : List ℕ). weigh lay f ns ins keys id y (state x z row (dryRun row))) a b) n h
-
-module _ (ns : List ℕ) (ins : List ℤ) (keys : List ℕ) (lits : List ℤ) (marks : List ℕ) (row old : List ℤ) (id y : ℕ) (small : length old ≤ 2 ^ 62) (e : row ≡ old) (u : Run) where
-  pub sum-real-ends : u .words ≤ 2 ^ 62 → weighRun ns ins keys lits marks (u .next) id y .next ≤ 2 ^ 31 → Ends (id + 1) (λ f. weigh lay f ns ins keys id y (state lits marks row u))
-  unfolding weighRun
-  sum-real-ends h b = real-ends (weighing ns ins keys id y) (weighing-runs ns ins keys id y) (id + 1) lits marks row (rw e small) u h b
-
-  pub sum-real : (ls : List ℤ) (ms : List ℕ) (r : List ℤ) (d : Run) → u .words + length (weighRun ns ins keys lits marks (u .next) id y .out) ≤ 2 ^ 62
-      → ((f : ℕ) → id + 1 ≤ f → state ls ms r d ≡ weigh lay f ns ins keys id y (state lits marks row u)) → Real (weighRun ns ins keys lits marks (u .next) id y) u old ls ms r d
-  unfolding weighRun
-  sum-real ls ms r d h is =
-      real (weighing ns ins keys id y) (weighing-runs ns ins keys id y) (id + 1) lits marks old small u ls ms r d h
-      (λ f l. is f l ∙ ap (λ (x : List ℤ). weigh lay f ns ins keys id y (state lits marks x u)) e)
 
 -- ---- the answers
 

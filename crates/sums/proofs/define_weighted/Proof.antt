@@ -19,7 +19,7 @@ use Rattle.sums.proofs.define_weighted.Reads as reads
 use Rattle.sums.proofs.define_weighted.Lts as lts
 use Rattle.find.proofs.output_of.Reads as output-of-reads
 use Rattle.rows.proofs.node_at.Reads as node-at-reads
-use Rattle.sums.proofs.copy_and_meet.Reads as copy-and-meet-reads
+use Rattle.meet.proofs.copy_and_meet.Reads as copy-and-meet-reads
 use Rattle.table.proofs.table_ok.Reads as table-ok-reads
 use Rattle.table.proofs.work_ok.Reads as work-ok-reads
 

@@ -13,13 +13,13 @@ use Rattle.runs.specs.Met.{no-vars, no-room, all-given}
 use Rattle.runs.specs.Dry.{fit-dry}
 use Rattle.runs.specs.Used.{runOf}
 use Rattle.sum.proofs.Laws.{outs-few}
-use Rattle.sums.proofs.Laws.{sum-dry-ends, sum-known, sum-real-ends, sum-real}
+use Rattle.meet.proofs.Laws.{sum-dry-ends, sum-known, sum-real-ends, sum-real}
 use mir.Facts.{toZ-ofZ}
 use borrow.Author.Needs.{needs}
-use Rattle.sums.proofs.meet_sum.Statement.{statement}
-use Rattle.sums.proofs.meet_sum.Tie as tie
-use Rattle.sums.proofs.meet_sum.Reads as reads
-use Rattle.sums.proofs.meet_sum.Lts as lts
+use Rattle.meet.proofs.meet_sum.Statement.{statement}
+use Rattle.meet.proofs.meet_sum.Tie as tie
+use Rattle.meet.proofs.meet_sum.Reads as reads
+use Rattle.meet.proofs.meet_sum.Lts as lts
 use Rattle.runs.proofs.literal_at.Reads as literal-at-reads
 use Rattle.sum.proofs.weigh.Reads as weigh-reads
 

@@ -5,13 +5,13 @@ use Prim.Native.Nat.{ℕ, _+_, _-_, _*_, _/_, _<_, _≤_, _^_}
 use lib.ListN.{length}
 use lib.IntN.{ℤ}
 use borrow.Author.Needs.{needs}
-use Rattle.sums.proofs.copy_and_meet.Statement.{statement}
-use Rattle.sums.proofs.copy_and_meet.Tie as tie
-use Rattle.sums.proofs.copy_and_meet.Reads as reads
-use Rattle.sums.proofs.copy_and_meet.Lts as lts
+use Rattle.meet.proofs.copy_and_meet.Statement.{statement}
+use Rattle.meet.proofs.copy_and_meet.Tie as tie
+use Rattle.meet.proofs.copy_and_meet.Reads as reads
+use Rattle.meet.proofs.copy_and_meet.Lts as lts
 use Rattle.runs.proofs.copy_lits.Reads as copy-lits-reads
 use Rattle.runs.proofs.copy_marks.Reads as copy-marks-reads
-use Rattle.sums.proofs.meet_sum.Reads as meet-sum-reads
+use Rattle.meet.proofs.meet_sum.Reads as meet-sum-reads
 
 -- src/lib.rt:96:5
 copy-lits-requires : tie.Need-copy-lits-requires
