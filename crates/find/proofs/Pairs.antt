@@ -1,27 +1,27 @@
 -- The window of the left outputs: outside it there is no pair, so that a run may leave those turns out.
 use mathlib.Core.Path.{_≡_, refl, sym, ap, _∙_}
-use mathlib.Core.Bool.{Bool, true, false, cond}
+use mathlib.Core.Bool.{Bool, true, false}
 use mathlib.Core.List.{List}
 use Prim.Native.Nat.{ℕ, zero, suc, _+_, _-_, _*_, _/_, _%_, _≤_, _<_}
 use native.Mathlib.Decide.{ℕ-discrete}
 use native.Mathlib.Nat.{mod-add-div, mul-le-mul-left}
 use native.Mathlib.Omega.{arith}
-use borrow.Author.Tests.{eq-eqb, ne-eqb, eqb-true, eqb-false, ltb-true, ltb-false}
-use lib.Dec.{eqb, ltb}
+use borrow.Author.Tests.{eq-eqb, ne-eqb, ltb-true, ltb-false}
+use lib.Dec.{ltb}
 use lib.IntN.{ℤ}
 use Rattle.paper.specs.Span.{over, span}
 use Rattle.paper.specs.Rows.{nodeAt, valueCount, valueAt, conLen, conVal}
 use Rattle.paper.specs.Plain.{St}
-use Rattle.paper.specs.Weighted.{outputOf, placeOf, shareOf, noWay, joined, wayTwo, wayOf, turnsOf, linkOf, linksOf, weigh}
+use Rattle.paper.specs.Weighted.{outputOf, shareOf, noWay, joined, wayOf, linkOf, weigh}
 use Rattle.paper.specs.declared.Node.{Node}
 use Rattle.paper.specs.declared.Clause.{Clause}
 use Rattle.paper.specs.declared.Found.{Found}
 use Rattle.paper.specs.declared.Found.the-variants.{At, Absent}
 use Rattle.paper.specs.declared.Span.{Span}
 use Rattle.paper.specs.declared.Way.{Way}
-use Rattle.find.specs.Ways.{Sorted, Muls, Cut, largestOf, Pairing}
+use Rattle.find.specs.Ways.{Sorted, Cut, largestOf, Pairing}
 use Rattle.find.proofs.Laws.{count-general, share-no, share-yes, way-both, way-over}
-use Rattle.find.proofs.Paper.{Finds, finds, value-counts, over-last, link-none}
+use Rattle.find.proofs.Paper.{Finds, finds, value-counts, link-none}
 
 -- ---- the largest value
 
@@ -37,15 +37,15 @@ module _ (keys : List ℕ) (n : Node) where
 -- ---- values ascend
 
 module _ (keys : List ℕ) (n : Node) (s : Sorted keys n) where
-  value-general : n .kind ≡ 2 → (i : ℕ) → i < valueCount n → (j : ℕ) → i < j → j < valueCount n → valueAt keys n i < valueAt keys n j
+  general-rise : n .kind ≡ 2 → (i j : ℕ) → i < j → j < valueCount n → valueAt keys n i < valueAt keys n j
   unfolding valueAt
-  value-general e i a j h b = rw (ne-eqb (n .kind) 0 (λ z. omega arith)) (s .general e .rise i j h (omega (arith, count-general n e)))
+  general-rise e i j h b = rw (ne-eqb (n .kind) 0 (λ z. omega arith)) (s .general e .rise i j h (omega (arith, count-general n e)))
 
   pub value-rise : (i j : ℕ) → i < j → j < valueCount n → valueAt keys n i < valueAt keys n j
   value-rise i j h b = go (ℕ-discrete (n .kind) 2)
     where
       go : Dec (n .kind ≡ 2) → valueAt keys n i < valueAt keys n j
-      go (yes e) = value-general e i (omega arith) j h b
+      go (yes e) = general-rise e i j h b
       go (no e) = omega (arith, value-counts keys n (s .counted e) i (omega arith), value-counts keys n (s .counted e) j b)
 
   pub value-upto : (i j : ℕ) → i ≤ j → j < valueCount n → valueAt keys n i ≤ valueAt keys n j
@@ -189,21 +189,3 @@ module _ {S : Type 0} (put : S → Clause → S) (ns : List ℕ) (ins : List ℤ
       span-inner (turn f) (w .from) (w .to) (conLen (nodeAt ns (nodeAt ns k .left))) s (window-order ns keys k v w c) (c .high .inside)
       (λ j t h. still f j t (none-before ns keys k v w c r j h))
       (λ j t h b. still f j t (none-after ns keys k v w c j h b))
-
-  -- the pairs, left alone, right alone
-  pub pairs-then-alone : (rec : ℕ → ℕ → St S → St S) (s : St S)
-      → linksOf put rec ns ins keys k at v s
-      ≡ linkOf put rec ns ins k at (wayOf ns keys k v (conLen (nodeAt ns (nodeAt ns k .left)) + 1))
-      (linkOf put rec ns ins k at (wayOf ns keys k v (conLen (nodeAt ns (nodeAt ns k .left))))
-      (span 0 (conLen (nodeAt ns (nodeAt ns k .left))) (λ j t. linkOf put rec ns ins k at (wayOf ns keys k v j) t) s))
-  unfolding linksOf
-  pairs-then-alone rec s =
-      let a : ℕ = conLen (nodeAt ns (nodeAt ns k .left)) in
-      let f : ℕ → St S → St S = λ j t. linkOf put rec ns ins k at (wayOf ns keys k v j) t in
-      let e : turnsOf ns k - 0 ≡ suc (suc a) = omega arith in
-      let b : a - 0 ≡ a = omega arith in
-      let g : 0 + suc a ≡ a + 1 = omega arith in
-      let h : 0 + a ≡ a = omega arith in
-      ap (λ (m : ℕ). over m f 0 s) e ∙ over-last (suc a) f 0 s ∙ ap (f (0 + suc a)) (over-last a f 0 s)
-      ∙ ap (λ (i : ℕ). f i (f (0 + a) (over a f 0 s))) g ∙ ap (λ (i : ℕ). f (a + 1) (f i (over a f 0 s))) h
-      ∙ ap (λ (m : ℕ). f (a + 1) (f a (over m f 0 s))) (sym b)

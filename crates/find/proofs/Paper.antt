@@ -142,33 +142,42 @@ finds keys n units v = go (ℕ-discrete (n .kind) 2) (ℕ-discrete v 0)
 
 -- ---- the three parts of a step: the pairs, left alone, right alone
 
-pub over-last : {A : Type 0} (n : ℕ) (f : ℕ → A → A) (k : ℕ) (a : A) → over (suc n) f k a ≡ f (k + n) (over n f k a)
+over-last : {A : Type 0} (n : ℕ) (f : ℕ → A → A) (k : ℕ) (a : A) → over (suc n) f k a ≡ f (k + n) (over n f k a)
 unfolding over
 over-last zero f k a = let e : k ≡ k + 0 = omega arith in ap (λ (i : ℕ). f i a) e
 over-last (suc n) f k a = let e : k + 1 + n ≡ k + suc n = omega arith in over-last n f (k + 1) (f k a) ∙ ap (λ (i : ℕ). f i (over n f (k + 1) (f k a))) e
 
 module _ {S : Type 0} (put : S → Clause → S) (ns : List ℕ) (ins : List ℤ) (keys : List ℕ) where
+  pub three-ways : (rec : ℕ → ℕ → St S → St S) (k at v : ℕ) (s : St S)
+      → linksOf put rec ns ins keys k at v s
+      ≡ linkOf put rec ns ins k at (wayOf ns keys k v (conLen (nodeAt ns (nodeAt ns k .left)) + 1))
+      (linkOf put rec ns ins k at (wayOf ns keys k v (conLen (nodeAt ns (nodeAt ns k .left))))
+      (span 0 (conLen (nodeAt ns (nodeAt ns k .left))) (λ j t. linkOf put rec ns ins k at (wayOf ns keys k v j) t) s))
+  unfolding linksOf
+  three-ways rec k at v s =
+      let a : ℕ = conLen (nodeAt ns (nodeAt ns k .left)) in
+      let f : ℕ → St S → St S = λ j t. linkOf put rec ns ins k at (wayOf ns keys k v j) t in
+      let e : turnsOf ns k - 0 ≡ suc (suc a) = omega arith in
+      let b : a - 0 ≡ a = omega arith in
+      let g : 0 + suc a ≡ a + 1 = omega arith in
+      let h : 0 + a ≡ a = omega arith in
+      ap (λ (m : ℕ). over m f 0 s) e ∙ over-last (suc a) f 0 s ∙ ap (f (0 + suc a)) (over-last a f 0 s)
+      ∙ ap₂ (λ (i j : ℕ). f i (f j (over a f 0 s))) g h ∙ ap (λ (m : ℕ). f (a + 1) (f a (over m f 0 s))) (sym b)
+
   pub three-parts : (rec : ℕ → ℕ → St S → St S) (k at v : ℕ) (s : St S)
       → linksOf put rec ns ins keys k at v s
       ≡ linkOf put rec ns ins k at (record { x = 0; y = shareOf keys (nodeAt ns (nodeAt ns k .right)) (nodeAt ns k .rmul) v })
       (linkOf put rec ns ins k at (record { x = shareOf keys (nodeAt ns (nodeAt ns k .left)) (nodeAt ns k .lmul) v; y = 0 })
       (span 0 (conLen (nodeAt ns (nodeAt ns k .left))) (λ j t. linkOf put rec ns ins k at (wayOf ns keys k v j) t) s))
-  unfolding linksOf
   three-parts rec k at v s =
       let n = nodeAt ns k in
       let l = nodeAt ns (n .left) in
       let r = nodeAt ns (n .right) in
       let a : ℕ = conLen l in
       let f : ℕ → St S → St S = λ j t. linkOf put rec ns ins k at (wayOf ns keys k v j) t in
-      let pr : Way = record { x = 0; y = shareOf keys r (n .rmul) v } in
-      let pl : Way = record { x = shareOf keys l (n .lmul) v; y = 0 } in
-      let e : turnsOf ns k - 0 ≡ suc (suc a) = omega arith in
-      let b : a - 0 ≡ a = omega arith in
-      let g : wayTwo keys n l r v (0 + a) ≡ pl = way-left keys n l r v (0 + a) (omega arith) in
-      let h : wayTwo keys n l r v (0 + suc a) ≡ pr = way-right keys n l r v (0 + suc a) (omega arith) (λ z. let y : ⊥ = omega arith in y) in
-      ap (λ (m : ℕ). over m f 0 s) e ∙ over-last (suc a) f 0 s ∙ ap (f (0 + suc a)) (over-last a f 0 s)
-      ∙ ap₂ (λ (p q : Way). linkOf put rec ns ins k at p (linkOf put rec ns ins k at q (over a f 0 s))) h g
-      ∙ ap (λ (m : ℕ). linkOf put rec ns ins k at pr (linkOf put rec ns ins k at pl (over m f 0 s))) (sym b)
+      let g = way-left keys n l r v a refl in
+      let h = way-right keys n l r v (a + 1) (omega arith) (λ z. let y : ⊥ = omega arith in y) in
+      three-ways rec k at v s ∙ ap₂ (λ (p q : Way). linkOf put rec ns ins k at p (linkOf put rec ns ins k at q (span 0 a f s))) h g
 
   -- place 0 asks for nothing
   pub weigh-zero : (f k : ℕ) (s : St S) → weigh put f ns ins keys k 0 s ≡ s

@@ -26,7 +26,8 @@ use Rattle.count.specs.Run.{outs, Ok, Here, Fit, state, Ends}
 use Rattle.count.proofs.Laws.{fit-after, mono-define, next-by}
 use Rattle.find.specs.Ways.{Sorted, Place, Pairing}
 use Rattle.find.proofs.Laws.{count-leaf, count-general, way-within, sum-ok}
-use Rattle.find.proofs.Pairs.{in-window, pairs-then-alone}
+use Rattle.find.proofs.Paper.{three-ways}
+use Rattle.find.proofs.Pairs.{in-window}
 use Rattle.sum.specs.Ways.{Spot, CellAt, WayAt, pairsOf}
 
 -- ---- literals of a node
@@ -241,7 +242,7 @@ module _ (rec : Rec) (ns : List ℕ) (ins : List ℤ) (keys : List ℕ) (k at v 
 
   parts : one q (one p (pairsOf rec ns ins keys k at v s)) ≡ linksOf lay rec ns ins keys k at v s
   unfolding pairsOf
-  parts = rw (hq, hp, h) (sym (pairs-then-alone lay ns ins keys k at v rec s))
+  parts = rw (hq, hp, h) (sym (three-ways lay ns ins keys rec k at v s))
 
   pub alone-is : (s₁ s₂ s₃ : St Row) → s₁ ≡ pairsOf rec ns ins keys k at v s → s₂ ≡ one p s₁ → s₃ ≡ one q s₂ → s₃ ≡ linksOf lay rec ns ins keys k at v s
   alone-is s₁ s₂ s₃ a b c = c ∙ ap (one q) (b ∙ ap (one p) a) ∙ parts
