@@ -1,9 +1,11 @@
-// The calls that begin a table and add a leaf or the dummy. Each decides first, over rows that it only reads, and then writes.
+// The calls that begin a table and add a leaf or the dummy. Each decides first (crate choose), over rows that it only reads, and then writes.
+use choose::dummy_plan;
+use choose::leaf_plan;
+pub use choose::room_for_node;
 use paper::Added;
 use paper::Begun;
 use paper::Choice;
 use paper::Counters;
-use paper::NODE_LIMIT;
 use paper::NODE_WORDS;
 use paper::Node;
 use paper::Refusal;
@@ -11,7 +13,7 @@ ghost use mathlib.Core.Path.{_≡_};
 ghost use Prim.Native.Nat.{_+_, _*_, _≤_};
 ghost use lib.ListN.{length};
 ghost use Rattle.paper.specs.Limits.{nodeWords};
-ghost use Rattle.paper.specs.Grow.{freshOf, leafHere, firstLeaf, firstDummy, putNode, leafNode, dummyNode, roomForNode, leafPlan, leafAdded, leafNodes, leafInputs, dummyPlan, dummyAdded, dummyNodes};
+ghost use Rattle.paper.specs.Grow.{freshOf, putNode, leafNode, dummyNode, leafPlan, leafAdded, leafNodes, leafInputs, dummyPlan, dummyAdded, dummyNodes};
 ghost use Rattle.grow.specs.Small.{Small};
 
 pub fn fresh(first: usize, last: usize) -> Begun
@@ -30,50 +32,6 @@ pub fn fresh(first: usize, last: usize) -> Begun
     } else {
         Begun::NotMade(Refusal::BadVariables)
     }
-}
-
-fn leaf_here(inputs: &[i32], n: Node, x: i32) -> bool
-    ensures { λ r. ⌜ r ≡ leafHere (now (inputs .entry)) n x ⌝ }
-{
-    let k = n.kind;
-    let at = n.first;
-    if k != 0 {
-        return false;
-    }
-    if inputs.len() <= at {
-        return false;
-    }
-    rows::same_literal(inputs[at], x)
-}
-
-// The lowest id of a leaf with this literal, or the count.
-pub fn find_leaf(nodes: &[u32], inputs: &[i32], count: usize, x: i32) -> usize
-    ensures { λ r. ⌜ r ≡ firstLeaf (now (nodes .entry)) (now (inputs .entry)) count x ⌝ }
-{
-    let mut i = 0;
-    while i < count {
-        let n = rows::node_at(nodes, i);
-        if leaf_here(inputs, n, x) {
-            return i;
-        }
-        i += 1;
-    }
-    count
-}
-
-pub fn find_dummy(nodes: &[u32], count: usize) -> usize
-    ensures { λ r. ⌜ r ≡ firstDummy (now (nodes .entry)) count ⌝ }
-{
-    let mut i = 0;
-    while i < count {
-        let n = rows::node_at(nodes, i);
-        let k = n.kind;
-        if k == 3 {
-            return i;
-        }
-        i += 1;
-    }
-    count
 }
 
 pub fn put_node(nodes: &mut [u32], id: usize, n: Node)
@@ -121,43 +79,6 @@ pub fn dummy_node() -> Node
     }
 }
 
-// One node more fits the limit and a row of len words.
-pub fn room_for_node(nodes: usize, len: usize) -> bool
-    ensures { λ r. ⌜ r ≡ roomForNode nodes len ⌝ }
-{
-    (nodes < NODE_LIMIT) & (nodes < len / NODE_WORDS)
-}
-
-fn leaf_plan(
-    nodes: &[u32],
-    inputs: &[i32],
-    keys: &[u32],
-    lits: &[i32],
-    marks: &[u8],
-    clauses: usize,
-    c: Counters,
-    x: i32,
-) -> Choice
-    ensures { λ r. ⌜ r ≡ leafPlan (now (nodes .entry)) (now (inputs .entry)) (now (keys .entry)) (now (lits .entry)) (now (marks .entry)) clauses c x ⌝ }
-{
-    if !table::table_ok(nodes, inputs, keys, lits, marks, clauses, c) {
-        return Choice::No(Refusal::TableFails);
-    }
-    if !rows::literal_ok(x, c.first) {
-        return Choice::No(Refusal::BadLiteral);
-    }
-    let count = c.nodes;
-    let found = find_leaf(nodes, inputs, count, x);
-    if found < count {
-        return Choice::Old(found);
-    }
-    if room_for_node(count, nodes.len()) & (c.inputs < inputs.len()) {
-        Choice::New
-    } else {
-        Choice::No(Refusal::NoRoom)
-    }
-}
-
 pub fn leaf(
     nodes: &mut [u32],
     inputs: &mut [i32],
@@ -194,32 +115,6 @@ pub fn leaf(
                 },
             )
         }
-    }
-}
-
-fn dummy_plan(
-    nodes: &[u32],
-    inputs: &[i32],
-    keys: &[u32],
-    lits: &[i32],
-    marks: &[u8],
-    clauses: usize,
-    c: Counters,
-) -> Choice
-    ensures { λ r. ⌜ r ≡ dummyPlan (now (nodes .entry)) (now (inputs .entry)) (now (keys .entry)) (now (lits .entry)) (now (marks .entry)) clauses c ⌝ }
-{
-    if !table::table_ok(nodes, inputs, keys, lits, marks, clauses, c) {
-        return Choice::No(Refusal::TableFails);
-    }
-    let count = c.nodes;
-    let there = find_dummy(nodes, count);
-    if there < count {
-        return Choice::Old(there);
-    }
-    if room_for_node(count, nodes.len()) {
-        Choice::New
-    } else {
-        Choice::No(Refusal::NoRoom)
     }
 }
 
