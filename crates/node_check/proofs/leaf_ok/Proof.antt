@@ -1,7 +1,7 @@
 use mathlib.Core.Path.{refl}
 use Rattle.paper.specs.Table.{leafOk}
-use Rattle.table.proofs.leaf_ok.Statement.{statement}
-use Rattle.table.proofs.leaf_ok.Tie as tie
+use Rattle.node_check.proofs.leaf_ok.Statement.{statement}
+use Rattle.node_check.proofs.leaf_ok.Tie as tie
 
 returns : tie.Need-returns
 unfolding leafOk

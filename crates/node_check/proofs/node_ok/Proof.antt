@@ -3,8 +3,8 @@ use borrow.Author.Needs.{needs}
 use borrow.Author.Tests.{eq-eqb, ne-eqb, not-true, not-false}
 use Rattle.paper.specs.Below.{and-then, and-else}
 use Rattle.paper.specs.Table.{nodeOk}
-use Rattle.table.proofs.node_ok.Statement.{statement}
-use Rattle.table.proofs.node_ok.Tie as tie
+use Rattle.node_check.proofs.node_ok.Statement.{statement}
+use Rattle.node_check.proofs.node_ok.Tie as tie
 
 leaf-ok-requires : tie.Need-leaf-ok-requires
 leaf-ok-requires c κs = search needs

@@ -3,8 +3,8 @@ use mathlib.Core.Bool.{Bool, _&&_}
 use lib.Dec.{ltb, eqb}
 use borrow.Author.Needs.{needs}
 use Rattle.paper.specs.Table.{innerOk}
-use Rattle.table.proofs.inner_ok.Statement.{statement}
-use Rattle.table.proofs.inner_ok.Tie as tie
+use Rattle.node_check.proofs.inner_ok.Statement.{statement}
+use Rattle.node_check.proofs.inner_ok.Tie as tie
 
 fits-in-requires : tie.Need-fits-in-requires
 fits-in-requires c κs = search needs

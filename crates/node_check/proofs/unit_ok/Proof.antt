@@ -6,8 +6,8 @@ use borrow.Author.Needs.{needs}
 use Rattle.paper.specs.Below.{and-then, and-else}
 use Rattle.paper.specs.Rows.{conLen}
 use Rattle.paper.specs.Table.{unitOk}
-use Rattle.table.proofs.unit_ok.Statement.{statement}
-use Rattle.table.proofs.unit_ok.Tie as tie
+use Rattle.node_check.proofs.unit_ok.Statement.{statement}
+use Rattle.node_check.proofs.unit_ok.Tie as tie
 
 con-len-requires : tie.Need-con-len-requires
 con-len-requires c κs = search needs

@@ -1,7 +1,7 @@
 use mathlib.Core.Path.{refl}
 use Rattle.paper.specs.Table.{dummyOk}
-use Rattle.table.proofs.dummy_ok.Statement.{statement}
-use Rattle.table.proofs.dummy_ok.Tie as tie
+use Rattle.node_check.proofs.dummy_ok.Statement.{statement}
+use Rattle.node_check.proofs.dummy_ok.Tie as tie
 
 returns : tie.Need-returns
 unfolding dummyOk
