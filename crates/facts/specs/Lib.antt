@@ -10,6 +10,7 @@ pub mod Taken
 pub mod Kept
 pub mod Ranges
 pub mod Rel
+pub mod Sinks
 pub mod Ran
 pub mod Demands
 pub mod Keeps

@@ -33,7 +33,7 @@ use Rattle.meaning.specs.Rows.{State, keyIn, hasMark, markIn}
 use Rattle.meaning.specs.View.{kindOf, keyOf, part-at, count-is}
 use Rattle.meaning.specs.Ways.{Finds, output-finds}
 use Rattle.meaning.specs.Asked.{wants}
-use Rattle.meaning.specs.Sink.{through}
+use Rattle.facts.specs.Sinks.{through}
 use Rattle.histories.specs.Upheld.{Upheld, fit-of, ns, keys, used, begin, used-fit, used-sharp, used-good, node-here, counted, count-words, count-asked, weighed, weigh-words, weigh-placed, place-low}
 use Rattle.histories.specs.Stays.{ranDb}
 use Rattle.histories.specs.Stepped.{Went, stayed, ran, went, demandedDb}

@@ -19,83 +19,9 @@ use Rattle.paper.specs.declared.Want.{Want}
 use Rattle.paper.specs.declared.Todo.{Todo}
 use Rattle.paper.specs.declared.Clause.{Clause}
 use Rattle.paper.specs.declared.Way.{Way}
+use Rattle.facts.specs.Sinks.{over-rel, both-define, both-weigh, through, define-hom, weigh-hom}
 use Rattle.clause.specs.Row.{Row, lay, at-row}
 use Rattle.count.specs.Run.{outs}
-use Rattle.runs.specs.Rel.{over-rel, define-rel, weigh-rel}
-
--- ---- the clauses of one run through a map into those of another
-
-abbrev pub lift : {S T : Type 0} → (S → T) → St S → St T
-lift h s = record { lits = s .lits; marks = s .marks; next = s .next; out = h (s .out) }
-
-module _ {S T : Type 0} (p : S → Clause → S) (q : T → Clause → T) (h : S → T) (hom : (s : S) (c : Clause) → h (p s c) ≡ q (h s) c) where
-  span-hom : (c : ℕ → Clause) (n k : ℕ) (s : S) → h (over n (λ x t. p t (c x)) k s) ≡ over n (λ x t. q t (c x)) k (h s)
-  span-hom c n k s = over-rel (λ (a : S) (b : T). h a ≡ b) (λ x t. p t (c x)) (λ x t. q t (c x)) (λ j a b e. hom a (c j) ∙ ap (λ (z : T). q z (c j)) e) n k s (h s) refl
-
-  if-hom : (l r : List ℤ) (i : ℕ) (o : ℤ) (s : S) → h (emitIf p l r i o s) ≡ emitIf q l r i o (h s)
-  unfolding emitIf
-  if-hom l r i o s = span-hom (λ x. ifClause l r x (i + 1 - x) o) _ _ s
-
-  only-hom : (l r : List ℤ) (i : ℕ) (o : ℤ) (s : S) → h (emitOnly p l r i o s) ≡ emitOnly q l r i o (h s)
-  unfolding emitOnly
-  only-hom l r i o s = span-hom (λ x. onlyClause l r x (i - x) o) _ _ s
-
-  both-hom : (l r : List ℤ) (i : ℕ) (o : ℤ) (w : Want) (s : S) → h (emitBoth p l r i o w s) ≡ emitBoth q l r i o w (h s)
-  unfolding emitBoth
-  both-hom l r i o w s = go (w .fi) (w .fo)
-    where
-      go : (a b : Bool) → h (cond b (emitOnly p l r i o (cond a (emitIf p l r i o s) s)) (cond a (emitIf p l r i o s) s)) ≡ cond b (emitOnly q l r i o (cond a (emitIf q l r i o (h s)) (h s))) (cond a (emitIf q l r i o (h s)) (h s))
-      go true true = only-hom l r i o _ ∙ ap (emitOnly q l r i o) (if-hom l r i o s)
-      go true false = if-hom l r i o s
-      go false true = only-hom l r i o s
-      go false false = refl
-
-  finish-hom : (ns : List ℕ) (ins : List ℤ) (k i : ℕ) (d : Todo) (s : St S) → lift h (finishOf p ns ins k i d s) ≡ finishOf q ns ins k i d (lift h s)
-  unfolding finishOf
-  finish-hom ns ins k i d s = λ j. record {
-    lits = takenLits (s .lits) (nodeAt ns k .first + i) (s .next);
-    marks = set (s .marks) (nodeAt ns k .first + i) (d .mark);
-    next = takenNext (s .lits) (nodeAt ns k .first + i) (s .next);
-    out = both-hom (conLits ns ins (takenLits (s .lits) (nodeAt ns k .first + i) (s .next)) (nodeAt ns k .left)) (conLits ns ins (takenLits (s .lits) (nodeAt ns k .first + i) (s .next)) (nodeAt ns k .right)) i (litAt (takenLits (s .lits) (nodeAt ns k .first + i) (s .next)) (nodeAt ns k .first + i)) (d .want) (s .out) j;
-  }
-
-  pub define-hom : (f : ℕ) (ns : List ℕ) (ins : List ℤ) (k i : ℕ) (w : Want) (s : St S) → lift h (define p f ns ins k i w s) ≡ define q f ns ins k i w (lift h s)
-  define-hom f ns ins k i w s =
-      define-rel p q (λ (a : St S) (b : St T). lift h a ≡ b) ns ins (λ a b e. ap (λ (x : St T). x .marks) e)
-      (λ k′ i′ d a b e. finish-hom ns ins k′ i′ d a ∙ ap (finishOf q ns ins k′ i′ d) e) f k i w s (lift h s) refl
-
-  emit-hom : (l r : List ℤ) (d : Way) (o : ℤ) (s : S) → h (emitWay p l r d o s) ≡ emitWay q l r d o (h s)
-  unfolding emitWay
-  emit-hom l r d o s = go (eqb (d .x + d .y) 0)
-    where
-      go : (b : Bool) → h (cond b s (p s (ifClause l r (d .x) (d .y) o))) ≡ cond b (h s) (q (h s) (ifClause l r (d .x) (d .y) o))
-      go true = refl
-      go false = hom s (ifClause l r (d .x) (d .y) o)
-
-  clause-hom : (ns : List ℕ) (ins : List ℤ) (k at : ℕ) (d : Way) (s : St S) → lift h (clauseAt p ns ins k at d s) ≡ clauseAt q ns ins k at d (lift h s)
-  unfolding clauseAt
-  clause-hom ns ins k at d s = λ j. record {
-    lits = s .lits;
-    marks = s .marks;
-    next = s .next;
-    out = emit-hom (conLits ns ins (s .lits) (nodeAt ns k .left)) (conLits ns ins (s .lits) (nodeAt ns k .right)) d (litAt (s .lits) at) (s .out) j;
-  }
-
-  take-hom : (at : ℕ) (s : St S) → lift h (takeAt p at s) ≡ takeAt q at (lift h s)
-  unfolding takeAt
-  take-hom at s = refl
-
-  mark-hom : (at : ℕ) (s : St S) → lift h (markAt p at s) ≡ markAt q at (lift h s)
-  unfolding markAt
-  mark-hom at s = refl
-
-  pub weigh-hom : (f : ℕ) (ns : List ℕ) (ins : List ℤ) (keys : List ℕ) (k y : ℕ) (s : St S) → lift h (weigh p f ns ins keys k y s) ≡ weigh q f ns ins keys k y (lift h s)
-  weigh-hom f ns ins keys k y s =
-      weigh-rel p q (λ (a : St S) (b : St T). lift h a ≡ b) ns ins keys (λ a b e. ap (λ (x : St T). x .marks) e)
-      (λ k′ i′ d a b e. finish-hom ns ins k′ i′ d a ∙ ap (finishOf q ns ins k′ i′ d) e)
-      (λ at a b e. take-hom at a ∙ ap (takeAt q at) e)
-      (λ at a b e. mark-hom at a ∙ ap (markAt q at) e)
-      (λ k′ at d a b e. clause-hom ns ins k′ at d a ∙ ap (clauseAt q ns ins k′ at d) e) f k y s (lift h s) refl
 
 -- ---- clauses in a row: the words from w on, as far as the row goes
 
@@ -341,7 +267,7 @@ AnyRun = (S : Type 0) → (S → Clause → S) → ℕ → St S → St S
 -- are those of the cells that had none
 pub record Runs (run : AnyRun) : Type 1 where
   pub hom : (S T : Type 0) (p : S → Clause → S) (q : T → Clause → T) (h : S → T) → ((s : S) (c : Clause) → h (p s c) ≡ q (h s) c)
-      → (f : ℕ) (s : St S) → lift h (run S p f s) ≡ run T q f (lift h s)
+      → (f : ℕ) (s : St S) → through h (run S p f s) ≡ run T q f (through h s)
   pub like : (a b f : ℕ) (s t : St ℕ) → Like a b s t → Like a b (run ℕ tally f s) (run ℕ tally f t)
   pub sum : (n f : ℕ) (s t : St (List ℤ)) → Sum n s t → Sum n (run (List ℤ) grow f s) (run (List ℤ) grow f t)
 
@@ -355,14 +281,14 @@ pub counting-runs : (ns : List ℕ) (ins : List ℤ) (k i : ℕ) (w : Want) → 
 counting-runs ns ins k i w =
     record {
       hom = λ S T p q h m f s. define-hom p q h m f ns ins k i w s;
-      like = λ a b f s t r. define-rel tally tally (Like a b) ns ins (λ x y z. z .marks) (like-finish a b ns ins) f k i w s t r;
-      sum = λ n f s t r. define-rel grow grow (Sum n) ns ins (λ x y z. ap (λ (u : St (List ℤ)). u .marks) (z .same)) (sum-finish n ns ins) f k i w s t r;
+      like = λ a b f s t r. both-define tally tally (Like a b) ns ins (λ x y z. z .marks) (like-finish a b ns ins) f k i w s t r;
+      sum = λ n f s t r. both-define grow grow (Sum n) ns ins (λ x y z. ap (λ (u : St (List ℤ)). u .marks) (z .same)) (sum-finish n ns ins) f k i w s t r;
     }
 
 pub weighing-runs : (ns : List ℕ) (ins : List ℤ) (keys : List ℕ) (k y : ℕ) → Runs (weighing ns ins keys k y)
 weighing-runs ns ins keys k y =
     record {
       hom = λ S T p q h m f s. weigh-hom p q h m f ns ins keys k y s;
-      like = λ a b f s t r. weigh-rel tally tally (Like a b) ns ins keys (λ x y z. z .marks) (like-finish a b ns ins) (like-take a b) (like-mark a b) (like-clause a b ns ins) f k y s t r;
-      sum = λ n f s t r. weigh-rel grow grow (Sum n) ns ins keys (λ x y z. ap (λ (u : St (List ℤ)). u .marks) (z .same)) (sum-finish n ns ins) (sum-take n) (sum-mark n) (sum-clause n ns ins) f k y s t r;
+      like = λ a b f s t r. both-weigh tally tally (Like a b) ns ins keys (λ x y z. z .marks) (like-finish a b ns ins) (like-take a b) (like-mark a b) (like-clause a b ns ins) f k y s t r;
+      sum = λ n f s t r. both-weigh grow grow (Sum n) ns ins keys (λ x y z. ap (λ (u : St (List ℤ)). u .marks) (z .same)) (sum-finish n ns ins) (sum-take n) (sum-mark n) (sum-clause n ns ins) f k y s t r;
     }

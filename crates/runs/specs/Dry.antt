@@ -11,7 +11,8 @@ use Rattle.paper.specs.Plain.{St, grow, start, wordsOf}
 use Rattle.paper.specs.declared.Run.{Run}
 use Rattle.clause.specs.Row.{Row, lay, at-row}
 use Rattle.count.specs.Run.{Fit, state, Ends}
-use Rattle.runs.specs.Counts.{lift, laid, laid-hom, sets-out, tally, Like, zeros, zeros-length, Sum, AnyRun, Runs}
+use Rattle.facts.specs.Sinks.{through}
+use Rattle.runs.specs.Counts.{laid, laid-hom, sets-out, tally, Like, zeros, zeros-length, Sum, AnyRun, Runs}
 
 -- the plain run from n as the first free variable, at fuel k
 abbrev pub plainOf : AnyRun → ℕ → List ℤ → List ℕ → ℕ → St (List ℤ)
@@ -46,7 +47,7 @@ module _ (run : AnyRun) (laws : Runs run) (k : ℕ) (lits : List ℤ) (marks : L
       omega (arith, r .sum)
 
   -- from a and from b as the first free variable: as many variables, and as many words
-  same-counts : (a b : ℕ) → 1 ≤ a → 1 ≤ b → Like a b (lift length (plain a)) (lift length (plain b))
+  same-counts : (a b : ℕ) → 1 ≤ a → 1 ≤ b → Like a b (through length (plain a)) (through length (plain b))
   same-counts a b p q =
       let m : (out : List ℤ) (c : _) → length (grow out c) ≡ tally (length out) c = λ out c. length-append out (wordsOf c) in
       rw (laws .hom (List ℤ) ℕ grow tally length m k (start lits marks a), laws .hom (List ℤ) ℕ grow tally length m k (start lits marks b))
@@ -54,7 +55,7 @@ module _ (run : AnyRun) (laws : Runs run) (k : ℕ) (lits : List ℤ) (marks : L
 
   module _ (row : List ℤ) (small : length row ≤ 2 ^ 62) where
     -- a run over the row is the plain run, laid there
-    run-is : (u : Run) → u .words ≤ 2 ^ 62 → run Row lay k (state lits marks row u) ≡ lift (laid row (u .words)) (plain (u .next))
+    run-is : (u : Run) → u .words ≤ 2 ^ 62 → run Row lay k (state lits marks row u) ≡ through (laid row (u .words)) (plain (u .next))
     run-is u h =
         let e : min (u .words + 0) (2 ^ 62) ≡ u .words = omega arith in
         sym
@@ -77,7 +78,7 @@ module _ (run : AnyRun) (laws : Runs run) (k : ℕ) (lits : List ℤ) (marks : L
 
     -- the counts of the dry run
     module _ (few : length lits < 2 ^ 31) (ls : List ℤ) (ms : List ℕ) (r : List ℤ) (d : Run) (is : (f : ℕ) → k ≤ f → state ls ms r d ≡ run Row lay f (state lits marks row (dryRun row))) where
-      dry-is : state ls ms r d ≡ lift (laid row (length row)) (plain 1)
+      dry-is : state ls ms r d ≡ through (laid row (length row)) (plain 1)
       dry-is = is k (le-refl k) ∙ run-is (dryRun row) small
 
       pub known : (n : ℕ) → 1 ≤ n → Known (plain n) n row r d
@@ -95,7 +96,7 @@ module _ (run : AnyRun) (laws : Runs run) (k : ℕ) (lits : List ℤ) (marks : L
     pub real : (u : Run) (ls : List ℤ) (ms : List ℕ) (r : List ℤ) (d : Run) → u .words + length (plain (u .next) .out) ≤ 2 ^ 62
         → ((f : ℕ) → k ≤ f → state ls ms r d ≡ run Row lay f (state lits marks row u)) → Real (plain (u .next)) u row ls ms r d
     real u ls ms r d h is =
-        let e : state ls ms r d ≡ lift (laid row (u .words)) (plain (u .next)) = is k (le-refl k) ∙ run-is u (omega arith) in
+        let e : state ls ms r d ≡ through (laid row (u .words)) (plain (u .next)) = is k (le-refl k) ∙ run-is u (omega arith) in
         let g : min (u .words + length (plain (u .next) .out)) (2 ^ 62) ≡ u .words + length (plain (u .next) .out) = omega arith in
         record {
           lits = ap (λ (s : St Row). s .lits) e;
