@@ -2,27 +2,26 @@
 use mathlib.Core.Path.{_≡_, refl, sym, ap, ap₂, _∙_, subst}
 use mathlib.Core.Bool.{Bool, true, false}
 use mathlib.Core.List.{List, [], _∷_}
-use Prim.Native.Nat.{ℕ, zero, suc, _+_, _-_, _*_, _/_, _≤_, _<_, _^_, min}
+use Prim.Native.Nat.{ℕ, zero, suc, _+_, _-_, _/_, _≤_, _<_, _^_, min}
 use native.Mathlib.Decide.{ℕ-discrete}
-use native.Mathlib.Nat.{min-le-left, le-trans}
+use native.Mathlib.Nat.{le-trans}
 use Rattle.paper.specs.Span.{over, span, span-step}
 use native.Mathlib.Omega.{arith}
-use borrow.Author.Tests.{eq-eqb, ne-eqb, eqb-true, eqb-false}
+use borrow.Author.Tests.{eqb-true}
 use lib.Dec.{eqb}
 use lib.IntN.{ℤ, pos, negsuc, negℤ}
 use lib.Signed.{mag}
 use lib.ListN.{length, getD, set, take, drop, length-set, length-take, length-drop}
 use lib.Seq.{getD-set-same, getD-set-other, getD-take, getD-drop}
 use mir.Syntax.{w32}
-use mir.Val.{SFits, toZ, ofZ}
-use mir.Facts.{toZ-ofZ}
+use mir.Val.{SFits, ofZ}
 use mathlib.Core.Bool.{cond}
-use Rattle.paper.specs.Rows.{nodeAt, valueCount, conLits, isZero}
-use Rattle.count.specs.Run.{outs, Ok, UnitOk, Here, Cell, PassOk, WalkOk, Planned, Fit}
-use Rattle.paper.specs.Plain.{missingOf, planOf, planUnit, planTwo, rangesOf, ifSpan, onlySpan, noSpan}
+use Rattle.paper.specs.Rows.{nodeAt, conLits, isZero}
+use Rattle.count.specs.Run.{outs, Ok, Here, Cell, PassOk, WalkOk, Planned, Fit}
+use Rattle.paper.specs.Plain.{missingOf, planOf, planUnit, planTwo, rangesOf, ifSpan, onlySpan}
 use Rattle.clause.specs.Row.{Neg}
 use Rattle.paper.specs.Plain.{litAt, hasNone, takenLits, takenNext, St, emitBoth, finishOf, stepOf, walkOf, demandsOf, define}
-use Rattle.count.specs.Run.{Ends, state}
+use Rattle.count.specs.Run.{state}
 use Rattle.clause.specs.Row.{Row, at-row, lay}
 use Rattle.count.proofs.Plan.{outs-unit, outs-dummy, cells-in, left-in, right-in}
 use Rattle.facts.specs.Ranges.{span-to, if-to, only-to}

@@ -1,5 +1,5 @@
 -- The answer of the public call by the tests that lead there, and what the table check gives to the run.
-use mathlib.Core.Path.{_≡_, refl, sym, ap, ap₂, _∙_, subst}
+use mathlib.Core.Path.{_≡_, sym, _∙_, subst}
 use mathlib.Core.Bool.{Bool, true, false}
 use mathlib.Core.List.{List, _++_}
 use Prim.Native.Nat.{ℕ, _+_, _*_, _/_, _≤_, _<_, _^_}
@@ -7,13 +7,11 @@ use native.Mathlib.Omega.{arith}
 use borrow.Author.Tests.{lt-ltb, le-ltb, eq-eqb, ne-eqb}
 use lib.IntN.{ℤ}
 use lib.ListN.{length, drop}
-use lib.Seq.{sets}
 use Rattle.paper.specs.Limits.{nodeWords}
-use Rattle.paper.specs.Rows.{nodeAt, valueCount, isGeneral, conLits}
+use Rattle.paper.specs.Rows.{nodeAt, valueCount, conLits}
 use Rattle.paper.specs.Table.{tableOk, workOk}
-use Rattle.paper.specs.Plain.{St, litAt, plainRun}
-use Rattle.paper.specs.Demand.{nodesUsed, inputsUsed, cellsUsed, roomOf, countRun, countOf, demandedRow, demandedLits, demandedMarks, demandedClauses}
-use Rattle.paper.specs.declared.Node.{Node}
+use Rattle.paper.specs.Plain.{litAt, plainRun}
+use Rattle.paper.specs.Demand.{nodesUsed, inputsUsed, cellsUsed, countRun, countOf, demandedLits, demandedMarks, demandedClauses}
 use Rattle.paper.specs.declared.Want.{Want}
 use Rattle.paper.specs.declared.Counters.{Counters}
 use Rattle.paper.specs.declared.Refusal.the-variants.{NoSuchOutput, TableFails, WorkShort, NoSuchNode, GeneralNode}

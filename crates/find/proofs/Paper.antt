@@ -12,8 +12,8 @@ use lib.IntN.{ℤ}
 use lib.ListN.{getD}
 use Rattle.paper.specs.Span.{over, span}
 use Rattle.paper.specs.Rows.{nodeAt, wordFrom, valueCount, valueAt, conLen}
-use Rattle.paper.specs.Plain.{St, define}
-use Rattle.paper.specs.Weighted.{keyFrom, outputOf, placeOf, shareOf, noWay, wayTwo, wayOf, turnsOf, jobOf, emitWay, clauseAt, linkOf, linksOf, doOf, weigh}
+use Rattle.paper.specs.Plain.{St}
+use Rattle.paper.specs.Weighted.{keyFrom, outputOf, shareOf, noWay, wayOf, turnsOf, jobOf, emitWay, clauseAt, linkOf, linksOf, doOf, weigh}
 use Rattle.paper.specs.declared.Node.{Node}
 use Rattle.paper.specs.declared.Clause.{Clause}
 use Rattle.paper.specs.declared.Found.{Found}

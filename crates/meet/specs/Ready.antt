@@ -5,7 +5,7 @@ use lib.IntN.{ℤ}
 use lib.ListN.{length}
 use Rattle.paper.specs.Limits.{varLimit}
 use Rattle.paper.specs.Rows.{conLits}
-use Rattle.paper.specs.Plain.{St, litAt}
+use Rattle.paper.specs.Plain.{litAt}
 use Rattle.paper.specs.Weighted.{weighRun}
 use Rattle.paper.specs.declared.Counters.{Counters}
 use Rattle.paper.specs.declared.Demanded.{Demanded}

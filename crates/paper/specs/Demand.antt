@@ -1,17 +1,16 @@
 -- 01: unweighted and weighted, with their refusals. "unweighted 2, 3, 4, 5, 1, 12, 13; weighted 2, 3, 4, 1, 12, 13".
 use Prim.Native.Nat.{ℕ, _+_, _*_}
 use mathlib.Core.List.{List, _++_}
-use mathlib.Core.Bool.{Bool, true, false, cond, not}
+use mathlib.Core.Bool.{Bool, true, false, cond}
 use lib.ListN.{length, take, drop}
 use lib.Seq.{sets}
 use lib.Dec.{leb, ltb}
-use lib.IntN.{ℤ, pos}
+use lib.IntN.{ℤ}
 use Rattle.paper.specs.Limits.{nodeWords}
 use Rattle.paper.specs.Rows.{nodeAt, isGeneral, valueCount, conLits}
 use Rattle.paper.specs.Table.{tableOk, workOk}
 use Rattle.paper.specs.Plain.{St, litAt, plainRun}
 use Rattle.paper.specs.Weighted.{outputOf, placeOf, weighRun}
-use Rattle.paper.specs.declared.Node.{Node}
 use Rattle.paper.specs.declared.Want.{Want}
 use Rattle.paper.specs.declared.Counters.{Counters}
 use Rattle.paper.specs.declared.Found.{Found}

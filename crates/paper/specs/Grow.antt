@@ -1,9 +1,9 @@
 -- 01: fresh, leaf, dummy. What the calls that begin a table and add a leaf or the dummy answer, and what they leave in the rows.
-use Prim.Native.Nat.{ℕ, zero, suc, _+_, _*_, _/_}
+use Prim.Native.Nat.{ℕ, _+_, _*_, _/_}
 use mathlib.Core.List.{List}
 use mathlib.Core.Bool.{Bool, true, cond, _&&_, Bool·beq}
 use lib.ListN.{length, getD, set}
-use lib.Dec.{eqb, leb, ltb}
+use lib.Dec.{eqb, ltb}
 use lib.IntN.{ℤ, pos, natAbs}
 use Rattle.paper.specs.Limits.{nodeLimit, nodeWords}
 use Rattle.paper.specs.Below.{firstBelow}

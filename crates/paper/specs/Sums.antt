@@ -1,9 +1,8 @@
 -- 01, "Sums at the counter", the cases marked P: plans of calls, played on blank rows by the definitions themselves, and what the paper says of them.
 use Prim.Native.Nat.{ℕ}
 use mathlib.Core.Path.{_≡_, refl}
-use mathlib.Core.Bool.{Bool, cond}
 use mathlib.Core.List.{List, [], _∷_}
-use lib.ListN.{length, take, drop, replicate}
+use lib.ListN.{take, replicate}
 use lib.IntN.{ℤ, pos, negℤ}
 use Rattle.paper.specs.Below.{allBelow, sumBelow, firstBelow}
 use Rattle.paper.specs.Span.{over}
@@ -60,9 +59,8 @@ use Rattle.paper.specs.Calls.{
   step,
   appended,
 }
-use Rattle.paper.specs.declared.Pair.{Pair}
 use Rattle.paper.specs.declared.Semantics.{Semantics}
-use Rattle.paper.specs.declared.Semantics.the-variants.{If, OnlyIf, IfAndOnlyIf}
+use Rattle.paper.specs.declared.Semantics.the-variants.{If, IfAndOnlyIf}
 
 -- a line of the counter: the number, what is given back, the words appended
 pub record Line : Type 0 where

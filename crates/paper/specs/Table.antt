@@ -2,7 +2,7 @@
 -- than the node's own; every word, key and depth by the rules above; input literals nonzero with variables below F; marks at most 3
 -- (general: at most 1); a mark only where there is a literal; cell literals 0 or from F to next - 1."
 -- The nodes are read by `at`, and their row holds `holds` of them: over the words `at` is `nodeAt nodes`, over records it is the record itself.
-use Prim.Native.Nat.{ℕ, _+_, _*_, _/_, max}
+use Prim.Native.Nat.{ℕ, _+_, _/_, max}
 use mathlib.Core.List.{List}
 use mathlib.Core.Bool.{Bool, false, cond, not, _&&_, _||_}
 use lib.ListN.{length}

@@ -1,7 +1,7 @@
 -- 01: reserve, reset, emptying, value. "reserve 2, 3, 4, 12; value 2, 3, 4, 14; reset and emptying the clauses 2".
 use Prim.Native.Nat.{ℕ, zero, suc, _+_, _-_, _*_}
 use mathlib.Core.List.{List, [], _∷_, _++_}
-use mathlib.Core.Bool.{Bool, true, false, cond, _&&_}
+use mathlib.Core.Bool.{Bool, true, cond, _&&_}
 use lib.ListN.{length, getD, replicate}
 use lib.Seq.{paste}
 use lib.Dec.{eqb, leb, ltb}

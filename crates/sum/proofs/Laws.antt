@@ -14,7 +14,7 @@ use Rattle.paper.specs.Limits.{nodeWords}
 use Rattle.paper.specs.Span.{over, span, span-step}
 use Rattle.paper.specs.Rows.{nodeAt, conLits}
 use Rattle.paper.specs.Plain.{litAt, hasNone, takenLits, takenNext, St, justIf, ifClause, define}
-use Rattle.paper.specs.Weighted.{wayTwo, wayOf, turnsOf, jobOf, takeAt, markAt, emitWay, clauseAt, linkOf, linksOf, doOf, weigh}
+use Rattle.paper.specs.Weighted.{wayOf, turnsOf, jobOf, takeAt, markAt, emitWay, clauseAt, linkOf, linksOf, doOf, weigh}
 use Rattle.paper.specs.declared.Node.{Node}
 use Rattle.paper.specs.declared.Run.{Run}
 use Rattle.paper.specs.declared.Span.{Span}
@@ -22,7 +22,7 @@ use Rattle.paper.specs.declared.Way.{Way}
 use Rattle.paper.specs.declared.Job.{Job}
 use Rattle.paper.specs.declared.Job.the-variants.{Nothing, Count, Sum}
 use Rattle.clause.specs.Row.{Row, at-row, lay}
-use Rattle.count.specs.Run.{outs, Ok, Here, Fit, state, Ends}
+use Rattle.count.specs.Run.{outs, Ok, Fit, state, Ends}
 use Rattle.count.proofs.Laws.{fit-after, mono-define, next-by}
 use Rattle.find.specs.Ways.{Sorted, Place, Pairing}
 use Rattle.find.proofs.Laws.{count-leaf, count-general, way-within, sum-ok}

@@ -1,5 +1,5 @@
 -- What a table that passes its check gives to a weighted run, and the answers by the tests that lead there.
-use mathlib.Core.Path.{_≡_, refl, sym, ap, ap₂, _∙_}
+use mathlib.Core.Path.{_≡_, sym, ap, _∙_}
 use mathlib.Core.Bool.{true, false}
 use mathlib.Core.List.{List, _++_}
 use Prim.Native.Nat.{ℕ, _+_, _/_, _≤_, _<_, _^_, max}
@@ -8,29 +8,23 @@ use borrow.Author.Tests.{lt-ltb, le-ltb, leb-true}
 use lib.Dec.{leb}
 use lib.IntN.{ℤ}
 use lib.ListN.{length, drop}
-use lib.Seq.{sets}
 use Rattle.paper.specs.Limits.{nodeWords}
 use Rattle.paper.specs.Below.{and-left, and-right}
 use Rattle.paper.specs.Rows.{nodeAt, wordFrom, valueCount, conLits}
 use Rattle.paper.specs.Table.{tableOk, workOk}
 use Rattle.paper.specs.Plain.{St, litAt}
-use Rattle.paper.specs.Weighted.{outputOf, placeOf, weigh, weighRun}
-use Rattle.paper.specs.Demand.{nodesUsed, inputsUsed, cellsUsed, roomOf, demandedOf, demandedRow, sumPlace, sumRun, sumOf, demandedLits, demandedMarks, demandedClauses}
+use Rattle.paper.specs.Weighted.{placeOf, weighRun}
+use Rattle.paper.specs.Demand.{nodesUsed, inputsUsed, cellsUsed, roomOf, demandedOf, sumPlace, sumRun, sumOf, demandedLits, demandedMarks, demandedClauses}
 use Rattle.paper.specs.declared.Node.{Node}
 use Rattle.paper.specs.declared.Counters.{Counters}
-use Rattle.paper.specs.declared.Run.{Run}
-use Rattle.paper.specs.declared.Found.{Found}
 use Rattle.paper.specs.declared.Found.the-variants.{At, Absent}
 use Rattle.paper.specs.declared.Refusal.the-variants.{NoSuchOutput, TableFails, WorkShort, NoSuchNode}
 use Rattle.paper.specs.declared.Demanded.{Demanded}
 use Rattle.paper.specs.declared.Demanded.the-variants.{NotGiven}
 use Rattle.facts.specs.Facts.{TableFacts, NodeFactsAt, a-leaf, a-dummy, a-unit, a-general, used-at, used-length}
 use Rattle.facts.specs.Members.{key-ascend}
-use Rattle.runs.specs.Used.{runOf, nodes-length, same-node, fit-of, back}
-use Rattle.runs.specs.Counts.{weighing, weighing-runs}
-use Rattle.runs.specs.Dry.{dryRun, Known, Real, dry-ends, known, real-ends, real}
-use Rattle.clause.specs.Row.{lay}
-use Rattle.count.specs.Run.{Here, state, Ends}
+use Rattle.runs.specs.Used.{nodes-length, same-node, fit-of, back}
+use Rattle.count.specs.Run.{Here}
 use Rattle.find.specs.Ways.{Rising, Sorted}
 use Rattle.find.proofs.Laws.{count-dummy, count-unit, output-place}
 use Rattle.sum.specs.Ways.{GeneralOk, Generals}

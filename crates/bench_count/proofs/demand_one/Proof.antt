@@ -1,10 +1,9 @@
-use mathlib.Core.Path.{_≡_, refl, sym, ap, _∙_}
-use Prim.Native.Nat.{ℕ, _+_, _-_, _/_, _≤_, _<_, _^_}
+use mathlib.Core.Path.{ap}
+use Prim.Native.Nat.{_-_, _/_, _<_}
 use native.Mathlib.Omega.{arith}
-use lib.ListN.{length}
 use Rattle.runs.specs.Counts.{counting, counting-runs}
 use Rattle.runs.specs.Dry.{few-ends}
-use Rattle.paper.specs.Rows.{nodeAt, conLen, valueCount}
+use Rattle.paper.specs.Rows.{valueCount}
 use Rattle.count.specs.Run.{outs}
 use borrow.Author.Needs.{needs}
 use Rattle.bench_count.proofs.demand_one.Statement.{statement}

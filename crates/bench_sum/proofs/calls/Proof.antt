@@ -1,7 +1,5 @@
-use mathlib.Core.Path.{_≡_, refl, sym, ap, _∙_}
-use Prim.Native.Nat.{ℕ, _+_, _-_, _/_, _≤_, _<_, _^_}
+use Prim.Native.Nat.{_-_, _/_, _<_}
 use native.Mathlib.Omega.{arith}
-use lib.ListN.{length}
 use borrow.Author.Needs.{needs}
 use Rattle.bench_sum.proofs.calls.Statement.{statement}
 use Rattle.bench_sum.proofs.calls.Tie as tie

@@ -1,8 +1,7 @@
 use mathlib.Core.Path.{_≡_, refl, _∙_}
-use Prim.Native.Nat.{_-_, _<_, _≤_}
+use Prim.Native.Nat.{_-_}
 use native.Mathlib.Omega.{arith}
 use lib.ListN.{length}
-use borrow.Author.Needs.{needs}
 use Rattle.bench_sum.proofs.clear.Statement.{statement}
 use Rattle.bench_sum.proofs.clear.Tie as tie
 use Rattle.bench_sum.proofs.clear.Reads as reads

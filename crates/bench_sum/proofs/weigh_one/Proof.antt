@@ -1,7 +1,6 @@
-use mathlib.Core.Path.{_≡_, refl, sym, ap, _∙_}
-use Prim.Native.Nat.{ℕ, _+_, _-_, _/_, _≤_, _<_, _^_}
+use mathlib.Core.Path.{ap}
+use Prim.Native.Nat.{_+_, _-_, _/_, _≤_}
 use native.Mathlib.Omega.{arith}
-use lib.ListN.{length}
 use Rattle.paper.specs.Rows.{conLen}
 use Rattle.count.specs.Run.{outs}
 use Rattle.runs.specs.Counts.{weighing, weighing-runs}

@@ -1,13 +1,13 @@
 use borrow.Author.Needs.{needs}
-use mathlib.Core.Path.{_≡_, refl, sym, ap, ap₂, _∙_, subst}
+use mathlib.Core.Path.{_≡_, refl, sym, _∙_, subst}
 use mathlib.Core.List.{List}
 use Prim.Native.Nat.{_+_, _*_, _-_, _/_, _≤_}
 use native.Mathlib.Omega.{arith}
 use lib.ListN.{length}
 use lib.IntN.{ℤ}
 use Rattle.paper.specs.Span.{span, span-turn, span-end}
-use Rattle.count.specs.Run.{Fit, Here, Cell, Planned, outs, Ok}
-use Rattle.paper.specs.Plain.{define, demandsOf, walkOf, St}
+use Rattle.count.specs.Run.{Fit, Ok}
+use Rattle.paper.specs.Plain.{define, demandsOf, St}
 use Rattle.clause.specs.Row.{lay, Row}
 use Rattle.count.specs.Run.{state}
 use Rattle.count.proofs.Laws.{pass-ok, walk-ok, return-is, pass-is, continue-is, walk-is, pass-ends, walk-ends, turn-ends, next-by, ends-1, ends-2, ends-3, ends-4}

@@ -1,9 +1,8 @@
 use Rattle.paper.specs.declared.Node.{Node}
-use lib.ListN.{take, drop}
 use Rattle.count.proofs.Plan.{leaf-in, cells-in}
 use native.Mathlib.Omega.{arith}
 use borrow.Author.Tests.{eq-eqb, ne-eqb}
-use Rattle.paper.specs.Rows.{conLits, valueCount}
+use Rattle.paper.specs.Rows.{conLits}
 use mathlib.Core.Path.{_≡_, sym, ap, _∙_}
 use Prim.Native.Nat.{_+_, _-_}
 use borrow.Author.Needs.{needs}

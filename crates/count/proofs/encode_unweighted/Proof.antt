@@ -1,14 +1,10 @@
-use mathlib.Core.Path.{_≡_, refl, sym, ap, ap₂, _∙_, subst}
-use mathlib.Core.List.{List}
-use Prim.Native.Nat.{ℕ, _+_, _<_}
+use mathlib.Core.Path.{_≡_, refl}
+use Prim.Native.Nat.{_+_, _<_}
 use native.Mathlib.Omega.{arith}
 use lib.ListN.{length, length-set, set}
-use lib.IntN.{ℤ}
 use mir.Facts.{toZ-ofZ}
-use mir.Val.{SFits}
-use Rattle.count.specs.Run.{Fit}
-use Rattle.paper.specs.Plain.{takenNext, takenLits, litAt}
-use Rattle.count.proofs.Laws.{cell-in, cell-left, cell-right, fit-after, length-taken, finish-is, finish-next}
+use Rattle.paper.specs.Plain.{litAt}
+use Rattle.count.proofs.Laws.{cell-in, cell-left, cell-right, fit-after, finish-is, finish-next}
 use borrow.Author.Needs.{needs}
 use Rattle.count.proofs.encode_unweighted.Statement.{statement}
 use Rattle.count.proofs.encode_unweighted.Tie as tie

@@ -1,4 +1,4 @@
-use mathlib.Core.Path.{_≡_, refl, sym, ap, ap₂, _∙_}
+use mathlib.Core.Path.{sym, ap₂, _∙_}
 use Rattle.paper.specs.Plain.{planTwo}
 use Rattle.count.proofs.Plan.{unit-fi, unit-fo, unit-none}
 use borrow.Author.Needs.{needs}

@@ -1,9 +1,8 @@
 use native.Mathlib.Omega.{arith}
-use mathlib.Core.Path.{_≡_, refl, sym, ap, _∙_}
-use Prim.Native.Nat.{ℕ, _+_, _-_, _<_, _≤_, _^_}
+use mathlib.Core.Path.{sym, ap, _∙_}
+use Prim.Native.Nat.{ℕ, _-_}
 use Rattle.paper.specs.Rows.{valueAt}
 use Rattle.find.proofs.Pairs.{largest-none, largest-last}
-use borrow.Author.Needs.{needs}
 use Rattle.find.proofs.largest.Statement.{statement}
 use Rattle.find.proofs.largest.Tie as tie
 use Rattle.find.proofs.largest.Reads as reads

@@ -1,9 +1,7 @@
-use Prim.Native.Nat.{ℕ, _+_, _-_, _*_, _/_, _%_, _<_, _≤_, _^_}
-use native.Mathlib.Omega.{arith}
-use mathlib.Core.Path.{_≡_, refl, sym, ap, _∙_}
-use Prim.Native.Nat.{ℕ, _+_, _-_, _*_, _/_, _%_, _<_, _≤_}
+use Prim.Native.Nat.{_-_, _/_}
+use mathlib.Core.Path.{ap, _∙_}
+use Prim.Native.Nat.{_-_, _/_}
 use Rattle.paper.specs.Rows.{valueCount}
-use Rattle.paper.specs.declared.Node.{Node}
 use borrow.Author.Needs.{needs}
 use Rattle.find.proofs.left_count.Statement.{statement}
 use Rattle.find.proofs.left_count.Tie as tie

@@ -1,6 +1,5 @@
-use native.Mathlib.Omega.{arith}
-use mathlib.Core.Path.{_≡_, refl, sym, ap, _∙_}
-use Prim.Native.Nat.{ℕ, _+_, _-_, _*_, _/_, _%_, _<_, _≤_, _^_}
+use mathlib.Core.Path.{ap, _∙_}
+use Prim.Native.Nat.{_-_, _/_}
 use Rattle.paper.specs.Rows.{nodeAt}
 use Rattle.paper.specs.declared.Node.{Node}
 use Rattle.find.proofs.Laws.{muls-by, sorted-by}

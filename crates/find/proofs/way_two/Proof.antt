@@ -1,8 +1,8 @@
 use borrow.Author.Tests.{ltb-true, ltb-false, leb-true, leb-false}
 use native.Mathlib.Omega.{arith}
-use mathlib.Core.Path.{_≡_, refl, sym, ap, _∙_}
-use Prim.Native.Nat.{ℕ, _+_, _-_, _*_, _/_, _%_, _<_, _≤_, _^_}
-use Rattle.paper.specs.Rows.{valueCount, valueAt, conVal}
+use mathlib.Core.Path.{sym, ap, _∙_}
+use Prim.Native.Nat.{ℕ, _+_, _-_, _*_, _/_, _<_, _≤_, _^_}
+use Rattle.paper.specs.Rows.{valueCount, conVal}
 use Rattle.paper.specs.Weighted.{joined, shareOf}
 use Rattle.find.proofs.Laws.{way-both, way-over, way-left, way-right}
 use native.Mathlib.Nat.{mul-le-mul}

@@ -1,12 +1,11 @@
 use native.Mathlib.Omega.{arith}
 use native.Mathlib.Nat.{mul-le-mul}
-use mathlib.Core.Path.{_≡_, refl, sym, ap, _∙_}
-use Prim.Native.Nat.{ℕ, _-_, _*_, _<_, _≤_, _^_}
+use mathlib.Core.Path.{ap, _∙_}
+use Prim.Native.Nat.{_-_, _≤_, _^_}
 use Rattle.paper.specs.Rows.{nodeAt}
 use Rattle.paper.specs.declared.Node.{Node}
 use Rattle.find.proofs.Laws.{muls-by, sorted-by}
 use Rattle.find.proofs.Pairs.{pairing-of}
-use borrow.Author.Needs.{needs}
 use Rattle.find.proofs.window.Statement.{statement}
 use Rattle.find.proofs.window.Tie as tie
 use Rattle.find.proofs.window.Reads as reads

@@ -1,10 +1,9 @@
 use native.Mathlib.Omega.{arith}
-use mathlib.Core.Path.{_≡_, refl, sym, ap, _∙_}
+use mathlib.Core.Path.{refl, sym, ap, _∙_}
 use mathlib.Core.List.{List}
-use Prim.Native.Nat.{ℕ, _+_, _-_, _*_, _/_, _<_, _≤_, _^_}
+use Prim.Native.Nat.{_+_, _-_, _/_, _<_, _≤_, _^_}
 use lib.ListN.{length}
 use lib.IntN.{ℤ}
-use lib.Seq.{sets}
 use Rattle.paper.specs.Rows.{conLits}
 use Rattle.paper.specs.Plain.{litAt}
 use Rattle.paper.specs.Weighted.{weighRun}

@@ -1,7 +1,6 @@
-use Prim.Native.Nat.{_≤_, _-_}
+use Prim.Native.Nat.{_-_}
 use native.Mathlib.Omega.{arith}
-use mathlib.Core.Path.{_≡_, sym}
-use lib.ListN.{length}
+use mathlib.Core.Path.{sym}
 use lib.Seq.{length-take-le}
 use Rattle.plans_rows.proofs.within_words.Statement.{statement}
 use Rattle.plans_rows.proofs.within_words.Tie as tie

@@ -1,21 +1,20 @@
 use native.Mathlib.Omega.{arith}
 use mathlib.Core.Path.{_≡_, refl, sym, ap, _∙_}
 use mathlib.Core.List.{List}
-use Prim.Native.Nat.{ℕ, _+_, _-_, _*_, _/_, _<_, _≤_, _^_}
+use Prim.Native.Nat.{ℕ, _+_, _-_, _*_, _/_, _<_, _≤_}
 use lib.ListN.{length, set, length-set}
 use lib.IntN.{ℤ}
-use Rattle.paper.specs.Plain.{St, litAt, ifClause}
+use Rattle.paper.specs.Plain.{St}
 use Rattle.paper.specs.declared.Node.{Node}
 use Rattle.paper.specs.declared.Way.{Way}
-use Rattle.clause.specs.Row.{Row, lay, at-row}
+use Rattle.clause.specs.Row.{Row, lay}
 use borrow.Author.Needs.{needs}
 use Rattle.paper.specs.Span.{span, span-turn, span-end}
 use Rattle.paper.specs.Weighted.{weigh, wayOf, linkOf, linksOf, markAt}
-use Rattle.count.specs.Run.{Fit, Ok, outs, state}
+use Rattle.count.specs.Run.{Fit, state}
 use Rattle.count.proofs.Laws.{next-by}
-use Rattle.find.specs.Ways.{Place}
 use Rattle.find.proofs.Laws.{count-ok, sum-ok}
-use Rattle.sum.specs.Ways.{CellAt, WayAt, pairsOf}
+use Rattle.sum.specs.Ways.{pairsOf}
 use Rattle.sum.proofs.Laws.{place-at, link-ends-1, link-ends-2, turn-ends, pairs-start, pairs-ends, left-ends, right-ends, alone-is, link-is, take-is, mark-is, nothing-is, count-is, sum-is, take-asks, links-asks, mono-weigh, way-ok, fit-words, fit-marks}
 use Prim.Native.Nat.{ℕ, _<_}
 use borrow.Fn.Kinds.{In}

@@ -1,13 +1,8 @@
 use native.Mathlib.Omega.{arith}
-use mathlib.Core.Path.{_≡_, refl, sym, ap, _∙_}
-use mathlib.Core.List.{List}
-use Prim.Native.Nat.{ℕ, _+_, _-_, _*_, _/_, _<_, _≤_, _^_}
-use lib.ListN.{length, set, length-set}
-use lib.IntN.{ℤ}
-use Rattle.paper.specs.Plain.{St, litAt, ifClause}
-use Rattle.paper.specs.declared.Node.{Node}
-use Rattle.paper.specs.declared.Way.{Way}
-use Rattle.clause.specs.Row.{Row, lay, at-row}
+use mathlib.Core.Path.{sym, ap, _∙_}
+use Prim.Native.Nat.{_-_, _/_}
+use Rattle.paper.specs.Plain.{litAt, ifClause}
+use Rattle.clause.specs.Row.{lay, at-row}
 use mir.Facts.{toZ-ofZ}
 use Rattle.clause.proofs.Laws.{if-len, counted-after}
 use Rattle.count.proofs.Laws.{neg-lits-of}

@@ -1,5 +1,5 @@
 use native.Mathlib.Omega.{arith}
-use Prim.Native.Nat.{_+_, _-_, _≤_}
+use Prim.Native.Nat.{_-_}
 use Rattle.runs.proofs.Copy.{prefix-len}
 use borrow.Author.Needs.{needs}
 use Rattle.sum_sums.proofs.sum_in.Statement.{statement}

@@ -1,7 +1,6 @@
-use Prim.Native.Nat.{_≤_, _<_, _-_}
+use Prim.Native.Nat.{_≤_, _-_}
 use native.Mathlib.Omega.{arith}
 use lib.ListN.{length}
-use mathlib.Core.Path.{_≡_, refl}
 use Rattle.plans.proofs.decimal.digits_only.Statement.{statement}
 use Rattle.plans.proofs.decimal.digits_only.Tie as tie
 use Rattle.plans.proofs.decimal.digits_only.Reads as reads

@@ -1,7 +1,7 @@
-use Prim.Native.Nat.{_≤_, _<_, _-_}
+use Prim.Native.Nat.{_≤_, _-_}
 use native.Mathlib.Omega.{arith}
 use lib.ListN.{length}
-use mathlib.Core.Path.{_≡_, refl}
+use mathlib.Core.Path.{_≡_}
 use Rattle.plans.proofs.scan.past_word.Statement.{statement}
 use Rattle.plans.proofs.scan.past_word.Tie as tie
 use Rattle.plans.proofs.scan.past_word.Reads as reads

@@ -1,9 +1,7 @@
-use Prim.Native.Nat.{_≤_, _-_}
+use Prim.Native.Nat.{_-_}
 use native.Mathlib.Omega.{arith}
-use mathlib.Core.Path.{_≡_, sym}
-use lib.ListN.{length}
+use mathlib.Core.Path.{sym}
 use lib.Seq.{length-take-le}
-use borrow.Author.Needs.{needs}
 use Rattle.plans_text.proofs.bytes_out.within.Statement.{statement}
 use Rattle.plans_text.proofs.bytes_out.within.Tie as tie
 use Rattle.plans_text.proofs.bytes_out.within.Reads as reads

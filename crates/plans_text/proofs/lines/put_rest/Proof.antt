@@ -1,8 +1,6 @@
 use Prim.Native.Nat.{_≤_, _-_}
-use native.Mathlib.Omega.{arith}
-use mathlib.Core.Path.{_≡_, sym}
+use mathlib.Core.Path.{_≡_}
 use lib.ListN.{length}
-use lib.Seq.{length-take-le}
 use borrow.Author.Needs.{needs}
 use Rattle.plans_text.proofs.lines.put_rest.Statement.{statement}
 use Rattle.plans_text.proofs.lines.put_rest.Tie as tie
