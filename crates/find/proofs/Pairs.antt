@@ -6,7 +6,7 @@ use Prim.Native.Nat.{ℕ, zero, suc, _+_, _-_, _*_, _/_, _%_, _≤_, _<_}
 use native.Mathlib.Decide.{ℕ-discrete}
 use native.Mathlib.Nat.{mod-add-div, mul-le-mul-left}
 use native.Mathlib.Omega.{arith}
-use borrow.Author.Tests.{eq-eqb, ne-eqb, ltb-true, ltb-false}
+use borrow.Author.Tests.{ne-eqb, ltb-true, ltb-false}
 use lib.Dec.{ltb}
 use lib.IntN.{ℤ}
 use Rattle.paper.specs.Span.{over, span}
@@ -19,20 +19,11 @@ use Rattle.paper.specs.declared.Found.{Found}
 use Rattle.paper.specs.declared.Found.the-variants.{At, Absent}
 use Rattle.paper.specs.declared.Span.{Span}
 use Rattle.paper.specs.declared.Way.{Way}
-use Rattle.find.specs.Ways.{Sorted, Cut, largestOf, Pairing}
+use Rattle.keys.specs.Least.{largestOf}
+use Rattle.keys.proofs.Laws.{last-most}
+use Rattle.find.specs.Ways.{Sorted, Cut, Pairing}
 use Rattle.find.proofs.Laws.{count-general, share-no, share-yes, way-both, way-over}
 use Rattle.find.proofs.Paper.{Finds, finds, value-counts, link-none}
-
--- ---- the largest value
-
-module _ (keys : List ℕ) (n : Node) where
-  pub largest-none : valueCount n ≡ 0 → largestOf keys n ≡ 0
-  unfolding largestOf
-  largest-none e = rw (eq-eqb (valueCount n) 0 e)
-
-  pub largest-last : (valueCount n ≡ 0 → ⊥) → largestOf keys n ≡ valueAt keys n (valueCount n - 1)
-  unfolding largestOf
-  largest-last e = rw (ne-eqb (valueCount n) 0 e)
 
 -- ---- values ascend
 
@@ -59,28 +50,20 @@ module _ (keys : List ℕ) (n : Node) (s : Sorted keys n) where
   pub times-upto : (m i j : ℕ) → i ≤ j → j < valueCount n → conVal keys n m i ≤ conVal keys n m j
   times-upto m i j h b = mul-le-mul-left m (value-upto i j h b)
 
-  -- ---- nothing lies above the largest value
-
-  largest-tops : (j : ℕ) → j < valueCount n → valueAt keys n j ≤ largestOf keys n
-  largest-tops j h = rw (largest-last keys n (λ z. omega arith)) (value-upto j (valueCount n - 1) (omega arith) (omega arith))
-
-  above-largest : (q : ℕ) → largestOf keys n < q → outputOf keys n q ≡ Absent
-  above-largest q h = go (outputOf keys n q) (finds keys n (s .counted) q)
-    where
-      go : (f : Found) → Finds keys n q f → f ≡ Absent
-      go (At j) d = let a = d .1 in absurd (let z : ⊥ = omega (arith, largest-tops j (d .0)) in z)
-      go Absent d = refl
-
   -- a rest above the largest value times m is no output's
-  pub share-above : (m d : ℕ) → m * largestOf keys n < d → shareOf keys n m d ≡ 0
-  share-above m d h = go (ℕ-discrete (d % m) 0) (ltb (largestOf keys n) (d / m)) refl
+  pub share-above : (m d : ℕ) → largestOf keys n m < d → shareOf keys n m d ≡ 0
+  share-above m d h = go (ℕ-discrete (d % m) 0)
     where
-      go : Dec (d % m ≡ 0) → (b : Bool) → ltb (largestOf keys n) (d / m) ≡ b → shareOf keys n m d ≡ 0
-      go (no e) b q = share-no keys n m d e
-      go (yes e) true q = sym (share-yes keys n m d Absent e (sym (above-largest (d / m) (ltb-true _ _ q))))
-      go (yes e) false q =
-          let g : d / m ≤ largestOf keys n = ltb-false _ _ q in
-          absurd (let z : ⊥ = omega (arith, mod-add-div d m, mul-le-mul-left m g) in z)
+      absent : d % m ≡ 0 → (f : Found) → Finds keys n (d / m) f → f ≡ Absent
+      absent e (At j) q =
+          let top = last-most (conLen n) (conVal keys n m) (λ i k g b. times-upto m i k g b) j (q .0) in
+          let is : conVal keys n m j ≡ m * (d / m) = ap (λ (x : ℕ). m * x) (q .1) in
+          absurd (let z : ⊥ = omega (arith, top, is, mod-add-div d m) in z)
+      absent e Absent q = refl
+
+      go : Dec (d % m ≡ 0) → shareOf keys n m d ≡ 0
+      go (no e) = share-no keys n m d e
+      go (yes e) = sym (share-yes keys n m d Absent e (sym (absent e (outputOf keys n (d / m)) (finds keys n (s .counted) (d / m)))))
 
 -- ---- a place to cut at
 
@@ -93,8 +76,8 @@ module _ (keys : List ℕ) (n : Node) (s : Sorted keys n) (m more v j : ℕ) (h 
 
 -- ---- no pair outside the window
 
-pub pairing-of : (ns keys : List ℕ) (k v : ℕ) (n l r : Node) → n ≡ nodeAt ns k → l ≡ nodeAt ns (n .left) → r ≡ nodeAt ns (n .right) → (top : ℕ) → top ≡ largestOf keys r → (from to : ℕ)
-    → Cut keys l (n .lmul) (n .rmul * top) v from → Cut keys l (n .lmul) 0 v to → Pairing ns keys k v (record { from = from; to = to })
+pub pairing-of : (ns keys : List ℕ) (k v : ℕ) (n l r : Node) → n ≡ nodeAt ns k → l ≡ nodeAt ns (n .left) → r ≡ nodeAt ns (n .right) → (top : ℕ) → top ≡ largestOf keys r (n .rmul) → (from to : ℕ)
+    → Cut keys l (n .lmul) top v from → Cut keys l (n .lmul) 0 v to → Pairing ns keys k v (record { from = from; to = to })
 pairing-of ns keys k v n l r a b c top d from to low high = record { low = rw (← a, ← b, ← c, ← d) low; high = rw (← a, ← b) high }
 
 joined-none : (x y : ℕ) → joined x y ≡ noWay → y ≡ 0
@@ -128,7 +111,7 @@ module _ (ns keys : List ℕ) (k v : ℕ) (w : Span) (c : Pairing ns keys k v w)
 
   pub none-before : Sorted keys r → (p : ℕ) → p < w .from → wayOf ns keys k v p ≡ noWay
   none-before s p h =
-      let a : conVal keys l (n .lmul) p + n .rmul * largestOf keys r < v = c .low .below p h in
+      let a : conVal keys l (n .lmul) p + largestOf keys r (n .rmul) < v = c .low .below p h in
       let d : p < valueCount l = omega (arith, c .low .inside) in
       way-both keys n l r v p d (omega arith) ∙ ap (joined (p + 1)) (share-above keys r s (n .rmul) (v - conVal keys l (n .lmul) p) (omega arith))
 
@@ -136,11 +119,11 @@ module _ (ns keys : List ℕ) (k v : ℕ) (w : Span) (c : Pairing ns keys k v w)
   none-after p h d = way-over keys n l r v p d (omega (arith, c .high .above p h d))
 
   -- .. and inside it only pairs, where the right child makes up every rest
-  pub all-pairs : ((d : ℕ) → 1 ≤ d → d ≤ n .rmul * largestOf keys r → shareOf keys r (n .rmul) d ≡ 0 → ⊥) → (p : ℕ) → w .from ≤ p → p < w .to → wayOf ns keys k v p ≡ noWay → ⊥
+  pub all-pairs : ((d : ℕ) → 1 ≤ d → d ≤ largestOf keys r (n .rmul) → shareOf keys r (n .rmul) d ≡ 0 → ⊥) → (p : ℕ) → w .from ≤ p → p < w .to → wayOf ns keys k v p ≡ noWay → ⊥
   all-pairs dense p h g e =
       let d : p < valueCount l = omega (arith, c .high .inside) in
       let a : conVal keys l (n .lmul) p < v = omega (arith, c .high .below p g) in
-      let b : v ≤ conVal keys l (n .lmul) p + n .rmul * largestOf keys r = c .low .above p h d in
+      let b : v ≤ conVal keys l (n .lmul) p + largestOf keys r (n .rmul) = c .low .above p h d in
       dense (v - conVal keys l (n .lmul) p) (omega arith) (omega arith) (joined-none (p + 1) _ (sym (way-both keys n l r v p d a) ∙ e))
 
 -- ---- turns that change nothing

@@ -1,13 +1,12 @@
 -- What the lookups of a weighted demand ask of the table.
 use mathlib.Core.Path.{_≡_}
-use mathlib.Core.Bool.{cond}
 use mathlib.Core.List.{List}
-use Prim.Native.Nat.{ℕ, _+_, _-_, _*_, _<_, _≤_, _^_}
-use lib.Dec.{eqb}
+use Prim.Native.Nat.{ℕ, _+_, _<_, _≤_, _^_}
 use lib.ListN.{getD}
-use Rattle.paper.specs.Rows.{nodeAt, wordFrom, valueCount, valueAt, conLen, conVal}
+use Rattle.paper.specs.Rows.{nodeAt, wordFrom, valueCount, conLen, conVal}
 use Rattle.paper.specs.declared.Node.{Node}
 use Rattle.paper.specs.declared.Span.{Span}
+use Rattle.keys.specs.Least.{largestOf}
 
 -- the keys behind `first`, count of them, ascend
 pub record Rising (keys : List ℕ) (first count : ℕ) : Type 0 where
@@ -36,11 +35,7 @@ pub record Cut (keys : List ℕ) (n : Node) (m more v at : ℕ) : Type 0 where
   pub below : (i : ℕ) → i < at → conVal keys n m i + more < v
   pub above : (i : ℕ) → at ≤ i → i < conLen n → v ≤ conVal keys n m i + more
 
--- the largest value of n, or 0
-unfoldable pub largestOf : List ℕ → Node → ℕ
-largestOf keys n = cond (eqb (valueCount n) 0) 0 (valueAt keys n (valueCount n - 1))
-
 -- the left outputs that can be one of a pair for v: at least v with the largest right value on top, and below v alone
 pub record Pairing (ns keys : List ℕ) (k v : ℕ) (w : Span) : Type 0 where
-  pub low : Cut keys (nodeAt ns (nodeAt ns k .left)) (nodeAt ns k .lmul) (nodeAt ns k .rmul * largestOf keys (nodeAt ns (nodeAt ns k .right))) v (w .from)
+  pub low : Cut keys (nodeAt ns (nodeAt ns k .left)) (nodeAt ns k .lmul) (largestOf keys (nodeAt ns (nodeAt ns k .right)) (nodeAt ns k .rmul)) v (w .from)
   pub high : Cut keys (nodeAt ns (nodeAt ns k .left)) (nodeAt ns k .lmul) 0 v (w .to)

@@ -1,5 +1,6 @@
 // The outputs of a node by their values: the lookup of a key, the ways to make up a value from the outputs of two children, and what is to
 // be done for an output.
+use keys::largest;
 use paper::Found;
 use paper::Job;
 use paper::Node;
@@ -15,7 +16,7 @@ ghost use Prim.Native.Nat.{ℕ, _*_, _<_, _≤_, _^_};
 ghost use lib.ListN.{length};
 ghost use Rattle.paper.specs.Rows.{nodeAt, conLen};
 ghost use Rattle.paper.specs.Weighted.{keyFrom, outputOf, shareOf, joined, wayTwo, wayOf, jobOf};
-ghost use Rattle.find.specs.Ways.{Rising, Sorted, Muls, Place, Cut, largestOf, Pairing};
+ghost use Rattle.find.specs.Ways.{Rising, Sorted, Muls, Place, Cut, Pairing};
 
 // "search the keys for v": the place of v among count keys behind first. The keys ascend, so that each step halves what is left: those
 // before lo are below v, and those from hi on above it.
@@ -147,17 +148,6 @@ fn first_from(keys: &[u32], n: Node, m: usize, more: usize, v: usize) -> usize
     lo
 }
 
-// The largest value of n; 0 if it has none.
-fn largest(keys: &[u32], n: Node) -> usize
-    ensures { λ r. ⌜ (r ≡ largestOf (now (keys .entry)) n) × (r < 2 ^ 32) ⌝ }
-{
-    let c = con_len(n);
-    if c == 0 {
-        return 0;
-    }
-    value_at(keys, n, c - 1)
-}
-
 // The left outputs that can be one of a pair for v: those before are too small even with the largest right value, and those behind are v or
 // more alone.
 pub fn window(nodes: &[u32], keys: &[u32], id: usize, v: usize) -> Span
@@ -168,7 +158,7 @@ pub fn window(nodes: &[u32], keys: &[u32], id: usize, v: usize) -> Span
     let n = node_at(nodes, id);
     let l = node_at(nodes, n.left);
     let r = node_at(nodes, n.right);
-    let most = n.rmul * largest(keys, r);
+    let most = largest(keys, r, n.rmul);
     let from = first_from(keys, l, n.lmul, most, v);
     let to = first_from(keys, l, n.lmul, 0, v);
     Span { from, to }

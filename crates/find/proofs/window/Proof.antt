@@ -1,7 +1,6 @@
 use native.Mathlib.Omega.{arith}
-use native.Mathlib.Nat.{mul-le-mul}
 use mathlib.Core.Path.{ap, _∙_}
-use Prim.Native.Nat.{_-_, _≤_, _^_}
+use Prim.Native.Nat.{_-_}
 use Rattle.paper.specs.Rows.{nodeAt}
 use Rattle.paper.specs.declared.Node.{Node}
 use Rattle.find.proofs.Laws.{muls-by, sorted-by}
@@ -11,7 +10,7 @@ use Rattle.find.proofs.window.Tie as tie
 use Rattle.find.proofs.window.Reads as reads
 use Rattle.find.proofs.window.Lts as lts
 use Rattle.find.proofs.first_from.Reads as first-from-reads
-use Rattle.find.proofs.largest.Reads as largest-reads
+use Rattle.keys.proofs.largest.Reads as largest-reads
 use Rattle.rows.proofs.node_at.Reads as node-at-reads
 
 -- src/lib.rt:168:9
@@ -26,37 +25,30 @@ node-at-requires-2 c κs = tt
 node-at-requires-3 : tie.Need-node-at-requires-3
 node-at-requires-3 c κs = tt
 
--- src/lib.rt:171:25
-largest-requires : tie.Need-largest-requires
-largest-requires c κs = tt
-
 -- src/lib.rt:171:16
-mul-most : tie.Need-mul-most
-mul-most c = let m = muls-by _ _ (c .before .before .before .before .node-at .ensures) (c .before .before .before .before .before .before .before .pre .0) in
-    let a : c .before .before .before .before .node-at .result .rmul ≤ 2 ^ 16 = omega (arith, m .right-small) in
-    let b : c .before .largest .result ≤ 2 ^ 32 = omega (arith, c .before .largest .ensures .1) in
-    omega (arith, mul-le-mul a b)
+largest-requires : tie.Need-largest-requires
+largest-requires c κs =
+    let m = muls-by _ _ (c .before .before .node-at .ensures) (c .before .before .before .before .before .pre .0) in
+    omega (arith, m .right-small)
 
 -- src/lib.rt:172:9
 first-from-requires : tie.Need-first-from-requires
-first-from-requires c κs = let s = c .before .before .before .before .before .before .before in
-    let e = c .before .before .before .before .node-at .ensures in
+first-from-requires c κs = let s = c .before .before .before .before .before .before in
+    let e = c .before .before .before .node-at .ensures in
     let m = muls-by _ _ e (s .pre .0) in
-    let a : c .before .before .before .before .node-at .result .rmul ≤ 2 ^ 16 - 1 = omega (arith, m .right-small) in
-    let b : c .before .largest .result ≤ 2 ^ 32 = omega (arith, c .before .largest .ensures .1) in
-    ((m .left-small, omega (arith, mul-le-mul a b)), sorted-by _ _ _ (c .before .before .before .node-at2 .ensures ∙ ap (λ (q : Node). nodeAt (s .args .nodes .now) (q .left)) e) (s .pre .1))
+    ((m .left-small, c .largest .ensures .1), sorted-by _ _ _ (c .before .before .node-at2 .ensures ∙ ap (λ (q : Node). nodeAt (s .args .nodes .now) (q .left)) e) (s .pre .1))
 
 -- src/lib.rt:173:9
 first-from-requires-2 : tie.Need-first-from-requires-2
-first-from-requires-2 c κs = let s = c .before .before .before .before .before .before .before .before in
-    let e = c .before .before .before .before .before .node-at .ensures in
+first-from-requires-2 c κs = let s = c .before .before .before .before .before .before .before in
+    let e = c .before .before .before .before .node-at .ensures in
     let m = muls-by _ _ e (s .pre .0) in
-    ((m .left-small, omega arith), sorted-by _ _ _ (c .before .before .before .before .node-at2 .ensures ∙ ap (λ (q : Node). nodeAt (s .args .nodes .now) (q .left)) e) (s .pre .1))
+    ((m .left-small, omega arith), sorted-by _ _ _ (c .before .before .before .node-at2 .ensures ∙ ap (λ (q : Node). nodeAt (s .args .nodes .now) (q .left)) e) (s .pre .1))
 
 -- src/lib.rt:163:1
 returns : tie.Need-returns
-returns c = let s = c .before .before .before .before .before .before .before .before .before in
-    pairing-of (s .args .nodes .now) (s .args .keys .now) (s .args .id) (s .args .v) (c .before .before .before .before .before .before .node-at .result) (c .before .before .before .before .before .node-at2 .result) (c .before .before .before .before .node-at3 .result) (c .before .before .before .before .before .before .node-at .ensures) (c .before .before .before .before .before .node-at2 .ensures) (c .before .before .before .before .node-at3 .ensures) (c .before .before .before .largest .result) (c .before .before .before .largest .ensures .0) _ _ (c .before .first-from .ensures) (c .first-from2 .ensures)
+returns c = let s = c .before .before .before .before .before .before .before .before in
+    pairing-of (s .args .nodes .now) (s .args .keys .now) (s .args .id) (s .args .v) (c .before .before .before .before .before .node-at .result) (c .before .before .before .before .node-at2 .result) (c .before .before .before .node-at3 .result) (c .before .before .before .before .before .node-at .ensures) (c .before .before .before .before .node-at2 .ensures) (c .before .before .before .node-at3 .ensures) (c .before .before .largest .result) (c .before .before .largest .ensures .0) _ _ (c .before .first-from .ensures) (c .first-from2 .ensures)
 
 pub window-spec : {M : Type 1} → statement M
 window-spec =
@@ -66,7 +58,6 @@ window-spec =
     node-at-requires-2
     node-at-requires-3
     largest-requires
-    mul-most
     first-from-requires
     first-from-requires-2
     returns)
