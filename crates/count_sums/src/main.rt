@@ -5,32 +5,7 @@ use paper::Begun;
 use paper::Counters;
 use paper::Demanded;
 use paper::Pair;
-use paper::Refusal;
 use paper::Semantics;
-ghost use mathlib.Core.Path.{_≡_};
-ghost use Rattle.paper.specs.Numbers.{numberOf};
-
-fn number_of(why: Refusal) -> u64
-    ensures { λ r. ⌜ r ≡ numberOf why ⌝ }
-{
-    match why {
-        Refusal::NoSuchOutput => 1,
-        Refusal::TableFails => 2,
-        Refusal::WorkShort => 3,
-        Refusal::NoSuchNode => 4,
-        Refusal::GeneralNode => 5,
-        Refusal::BadLiteral => 6,
-        Refusal::BadMultiplier => 7,
-        Refusal::NoValue => 8,
-        Refusal::KeyTooLarge => 9,
-        Refusal::TooDeep => 10,
-        Refusal::NoRoom => 11,
-        Refusal::VariablesOut => 12,
-        Refusal::ClausesShort => 13,
-        Refusal::BadAssignment => 14,
-        Refusal::BadVariables => 15,
-    }
-}
 
 // ---- writing
 
@@ -157,7 +132,7 @@ fn told(what: &[u8], row: &[i32], d: Demanded, c: Counters) -> Counters {
             now
         }
         Demanded::NotGiven(why) => {
-            put(number_of(why));
+            put(tell::number_of(why) as u64);
             put(0);
             io::write_all(1, b" |\n");
             c

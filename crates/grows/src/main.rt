@@ -3,31 +3,6 @@ use paper::Added;
 use paper::Begun;
 use paper::Counters;
 use paper::Pair;
-use paper::Refusal;
-ghost use mathlib.Core.Path.{_≡_};
-ghost use Rattle.paper.specs.Numbers.{numberOf};
-
-fn number_of(why: Refusal) -> u64
-    ensures { λ r. ⌜ r ≡ numberOf why ⌝ }
-{
-    match why {
-        Refusal::NoSuchOutput => 1,
-        Refusal::TableFails => 2,
-        Refusal::WorkShort => 3,
-        Refusal::NoSuchNode => 4,
-        Refusal::GeneralNode => 5,
-        Refusal::BadLiteral => 6,
-        Refusal::BadMultiplier => 7,
-        Refusal::NoValue => 8,
-        Refusal::KeyTooLarge => 9,
-        Refusal::TooDeep => 10,
-        Refusal::NoRoom => 11,
-        Refusal::VariablesOut => 12,
-        Refusal::ClausesShort => 13,
-        Refusal::BadAssignment => 14,
-        Refusal::BadVariables => 15,
-    }
-}
 
 fn put(number: u64, id: u64) {
     io::write_all(1, b" ");
@@ -43,7 +18,7 @@ fn end() {
 fn say(a: Added) {
     match a {
         Added::Done(id, _) => put(0, id as u64),
-        Added::Refused(why) => put(number_of(why), 0),
+        Added::Refused(why) => put(tell::number_of(why) as u64, 0),
     }
 }
 
@@ -75,7 +50,7 @@ fn begin(first: usize, last: usize) {
     let b = grow::fresh(first, last);
     match b {
         Begun::Made(_) => put(0, 0),
-        Begun::NotMade(why) => put(number_of(why), 0),
+        Begun::NotMade(why) => put(tell::number_of(why) as u64, 0),
     }
 }
 

@@ -10,33 +10,11 @@ use paper::Valued;
 ghost use mathlib.Core.Path.{_≡_};
 ghost use Rattle.paper.specs.Numbers.{numberOf};
 
-pub fn number_of(why: Refusal) -> usize
-    ensures { λ r. ⌜ r ≡ numberOf why ⌝ }
-{
-    match why {
-        Refusal::NoSuchOutput => 1,
-        Refusal::TableFails => 2,
-        Refusal::WorkShort => 3,
-        Refusal::NoSuchNode => 4,
-        Refusal::GeneralNode => 5,
-        Refusal::BadLiteral => 6,
-        Refusal::BadMultiplier => 7,
-        Refusal::NoValue => 8,
-        Refusal::KeyTooLarge => 9,
-        Refusal::TooDeep => 10,
-        Refusal::NoRoom => 11,
-        Refusal::VariablesOut => 12,
-        Refusal::ClausesShort => 13,
-        Refusal::BadAssignment => 14,
-        Refusal::BadVariables => 15,
-    }
-}
-
 fn refused(why: Refusal, c: Counters) -> Said
     ensures { λ r. ⌜ (r .number ≡ numberOf why) × (r .value ≡ 0) × (r .counters ≡ c) ⌝ }
 {
     Said {
-        number: number_of(why),
+        number: tell::number_of(why) as usize,
         minus: false,
         value: 0,
         counters: c,

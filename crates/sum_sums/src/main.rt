@@ -4,33 +4,9 @@ use paper::Begun;
 use paper::Counters;
 use paper::Demanded;
 use paper::Pair;
-use paper::Refusal;
 ghost use mathlib.Core.Path.{_≡_};
 ghost use Prim.Native.Nat.{_<_, _≤_};
 ghost use lib.ListN.{length};
-ghost use Rattle.paper.specs.Numbers.{numberOf};
-
-fn number_of(why: Refusal) -> u64
-    ensures { λ r. ⌜ r ≡ numberOf why ⌝ }
-{
-    match why {
-        Refusal::NoSuchOutput => 1,
-        Refusal::TableFails => 2,
-        Refusal::WorkShort => 3,
-        Refusal::NoSuchNode => 4,
-        Refusal::GeneralNode => 5,
-        Refusal::BadLiteral => 6,
-        Refusal::BadMultiplier => 7,
-        Refusal::NoValue => 8,
-        Refusal::KeyTooLarge => 9,
-        Refusal::TooDeep => 10,
-        Refusal::NoRoom => 11,
-        Refusal::VariablesOut => 12,
-        Refusal::ClausesShort => 13,
-        Refusal::BadAssignment => 14,
-        Refusal::BadVariables => 15,
-    }
-}
 
 // ---- writing
 
@@ -177,7 +153,7 @@ fn sum(
         }
         Demanded::NotGiven(why) => {
             io::write_all(1, b"refused ");
-            io::print_decimal(1, number_of(why));
+            io::print_decimal(1, tell::number_of(why) as u64);
             io::write_all(1, b"\n");
             c
         }

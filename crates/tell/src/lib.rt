@@ -13,7 +13,8 @@ ghost use lib.IntN.{pos};
 ghost use Rattle.paper.specs.Numbers.{numberOf, addedSaid, begunSaid, demandedSaid, keptSaid};
 ghost use Rattle.tell.specs.Tell.{countersOf, numbersOf, semanticsOf, Told, WorthTold};
 
-fn number_of(why: Refusal) -> u32
+// Document 01's number of a refusal.
+pub fn number_of(why: Refusal) -> u32
     ensures { λ r. ⌜ r ≡ numberOf why ⌝ }
 {
     match why {

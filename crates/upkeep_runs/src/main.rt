@@ -4,33 +4,7 @@ use paper::Begun;
 use paper::Counters;
 use paper::Kept;
 use paper::Pair;
-use paper::Refusal;
 use paper::Valued;
-ghost use mathlib.Core.Path.{_≡_};
-ghost use Rattle.paper.specs.Numbers.{numberOf};
-
-// The paper's number of a refusal.
-fn number(why: Refusal) -> u64
-    ensures { λ r. ⌜ r ≡ numberOf why ⌝ }
-{
-    match why {
-        Refusal::NoSuchOutput => 1,
-        Refusal::TableFails => 2,
-        Refusal::WorkShort => 3,
-        Refusal::NoSuchNode => 4,
-        Refusal::GeneralNode => 5,
-        Refusal::BadLiteral => 6,
-        Refusal::BadMultiplier => 7,
-        Refusal::NoValue => 8,
-        Refusal::KeyTooLarge => 9,
-        Refusal::TooDeep => 10,
-        Refusal::NoRoom => 11,
-        Refusal::VariablesOut => 12,
-        Refusal::ClausesShort => 13,
-        Refusal::BadAssignment => 14,
-        Refusal::BadVariables => 15,
-    }
-}
 
 // ---- writing
 
@@ -87,7 +61,7 @@ fn put_kept(k: Kept) {
             put(c.next as u64);
             put(c.words as u64);
         }
-        Kept::DidNot(why) => put(number(why)),
+        Kept::DidNot(why) => put(tell::number_of(why) as u64),
     }
     end();
 }
@@ -99,7 +73,7 @@ fn put_valued(v: Valued) {
             put(0);
             put(n as u64);
         }
-        Valued::NotValued(why) => put(number(why)),
+        Valued::NotValued(why) => put(tell::number_of(why) as u64),
     }
     end();
 }
@@ -110,7 +84,7 @@ fn begun(b: Begun) -> Counters {
     match b {
         Begun::Made(c) => c,
         Begun::NotMade(why) => Counters {
-            first: number(why) as usize,
+            first: tell::number_of(why) as usize,
             next: 0,
             last: 0,
             nodes: 0,
