@@ -46,12 +46,12 @@ CASES = {
     "bench_sum": [("ta", 2, "table check, 6,194 cells")],
     "bench_table": [
         ("u", 3, "table check, 16,384 cells of units"),
-        ("a", 2, "table check, general nodes, 4,214 cells"),
-        ("b", 2, ".. 8,437 cells"),
+        ("a", 2, "table check, general nodes, 4,602 cells"),
+        ("b", 2, ".. 9,149 cells"),
         ("c", 1, "table check, general nodes with one leaf each, 4,082 cells"),
         ("d", 1, ".. 8,177 cells"),
-        ("e", 2, "inner, the general node of the 4,214 cells"),
-        ("f", 2, ".. of the 8,437 cells"),
+        ("e", 2, "inner, the general node of the 4,602 cells"),
+        ("f", 2, ".. of the 9,149 cells"),
     ],
 }
 VALUES = "3 clauses", "513 clauses", "1,024 clauses", "1 clause", "3 clauses, apart", "1,023 clauses and 2,102 below"
