@@ -50,7 +50,7 @@ pub fn done(out: &mut [u8], t: Stage) -> Stage {
     told(out, t, b"0 0")
 }
 
-// ---- the front of a row: as many entries as are lent, and all where there are fewer
+// ---- the front of a row, to write or only to read: as many entries as are lent, and all where there are fewer
 
 fn within_words(n: usize, row: &[u32]) -> usize
     ensures { λ r. ⌜ Front r (now (row .entry)) ⌝ }
@@ -61,6 +61,11 @@ fn within_words(n: usize, row: &[u32]) -> usize
 pub fn front_words(row: &mut [u32], n: usize) -> &mut [u32] {
     let m = within_words(n, row);
     &mut row[..m]
+}
+
+pub fn words_to_read(row: &[u32], n: usize) -> &[u32] {
+    let m = within_words(n, row);
+    &row[..m]
 }
 
 fn within_ints(n: usize, row: &[i32]) -> usize
@@ -74,6 +79,11 @@ pub fn front_ints(row: &mut [i32], n: usize) -> &mut [i32] {
     &mut row[..m]
 }
 
+pub fn ints_to_read(row: &[i32], n: usize) -> &[i32] {
+    let m = within_ints(n, row);
+    &row[..m]
+}
+
 fn within_bytes(n: usize, row: &[u8]) -> usize
     ensures { λ r. ⌜ Front r (now (row .entry)) ⌝ }
 {
@@ -83,6 +93,11 @@ fn within_bytes(n: usize, row: &[u8]) -> usize
 pub fn front_bytes(row: &mut [u8], n: usize) -> &mut [u8] {
     let m = within_bytes(n, row);
     &mut row[..m]
+}
+
+pub fn bytes_to_read(row: &[u8], n: usize) -> &[u8] {
+    let m = within_bytes(n, row);
+    &row[..m]
 }
 
 pub fn clear_words(row: &mut [u32]) {

@@ -38,6 +38,12 @@ pub fn put_text(out: &mut [u8], at: usize, s: &[u8]) -> usize {
     now
 }
 
+// The first len bytes, where there are as many.
+pub fn put_front(out: &mut [u8], at: usize, s: &[u8], len: usize) -> usize {
+    let n = within(len, s);
+    put_text(out, at, &s[..n])
+}
+
 pub fn put_number(out: &mut [u8], at: usize, v: usize) -> usize {
     let mut digits = [0u8; 20];
     let k = io::decimal(v as u64, &mut digits);

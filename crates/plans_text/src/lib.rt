@@ -10,3 +10,4 @@ pub use bytes_out::flush;
 pub use lines::put_call;
 pub use lines::put_nodes;
 pub use lines::put_plain;
+pub use lines::put_read;

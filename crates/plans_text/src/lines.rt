@@ -1,5 +1,6 @@
 // The lines.
 use crate::bytes_out::put;
+use crate::bytes_out::put_front;
 use crate::bytes_out::put_int;
 use crate::bytes_out::put_next;
 use crate::bytes_out::put_number;
@@ -50,6 +51,15 @@ pub fn put_call(out: &mut [u8], at: usize, clauses: &[i32], before: usize, s: Sa
     let mut now = put_number(out, at, s.number);
     now = put_signed(out, now, s.minus, s.value);
     put_rest(out, now, clauses, before, s.counters.words, s.counters.next)
+}
+
+// A line as it was read. Behind one that is answered stands an arrow, and the answer follows; one that is passed over ends.
+pub fn put_read(out: &mut [u8], at: usize, line: &[u8], len: usize, answered: bool) -> usize {
+    let now = put_front(out, at, line, len);
+    if answered {
+        return put_text(out, now, b" => ");
+    }
+    put(out, now, b'\n')
 }
 
 // A line without words.

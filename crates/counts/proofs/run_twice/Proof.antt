@@ -26,7 +26,7 @@ define-unweighted-rec-requires : tie.Need-define-unweighted-rec-requires
 define-unweighted-rec-requires c κs = let s = c .before .before .before .before .before .before in
     let small : length (s .args .clauses .now) ≤ 2 ^ 62 = omega (arith, s .good .1 .1 .1 .1 .0) in
     let few : length (s .args .ints .now) < 2 ^ 31 = rw (s .pre .1 .1 .0 .0) (s .pre .1 .1 .1 .0) in
-    (fit-dry _ _ (s .args .lits .now) _ (s .args .marks .now) _ (runOf (s .args .c)) _ (cc) (cc) small (s .pre .0), (s .pre .1 .0, dry-ends _ _ _ _ _ _ _ _ small few))
+    (fit-dry _ _ (s .args .lits .now) _ (s .args .marks .now) _ (runOf (s .args .c)) _ (s .pre .1 .1 .0 .0) (s .pre .1 .1 .0 .1) small (s .pre .0), (s .pre .1 .0, dry-ends _ _ _ _ _ _ _ _ small few))
 
 -- src/lib.rt:50:16
 sub-vars : tie.Need-sub-vars
@@ -37,7 +37,7 @@ sub-words : tie.Need-sub-words
 sub-words c = let s = c .before .before .before .before .before .before .before .before .before .before .before .before .before in
     let small : length (s .args .clauses .now) ≤ 2 ^ 62 = omega (arith, s .good .1 .1 .1 .1 .0) in
     let d = c .before .before .before .before .before .before .define-unweighted-rec in
-    let k = known (s .args .nodes .now) (s .args .inputs .now) (s .args .id) (s .args .i) (s .args .want) (s .args .lits .now) _ (s .args .marks .now) _ (s .args .clauses .now) small (cc) (cc) (s .pre .1 .1 .1 .0) _ _ _ _ (d .ensures) (s .args .c .next) (s .pre .0 .some) in
+    let k = known (s .args .nodes .now) (s .args .inputs .now) (s .args .id) (s .args .i) (s .args .want) (s .args .lits .now) _ (s .args .marks .now) _ (s .args .clauses .now) small (s .pre .1 .1 .0 .0) (s .pre .1 .1 .0 .1) (s .pre .1 .1 .1 .0) _ _ _ _ (d .ensures) (s .args .c .next) (s .pre .0 .some) in
     omega (arith, k .words)
 
 -- src/lib.rt:52:8
@@ -49,7 +49,7 @@ add-if1-2 : tie.Need-add-if1-2
 add-if1-2 c = let s = c .before .before .before .before .before .before .before .before .before .before .before .before .before .before .before in
     let small : length (s .args .clauses .now) ≤ 2 ^ 62 = omega (arith, s .good .1 .1 .1 .1 .0) in
     let d = c .before .before .before .before .before .before .before .before .define-unweighted-rec in
-    let k = known (s .args .nodes .now) (s .args .inputs .now) (s .args .id) (s .args .i) (s .args .want) (s .args .lits .now) _ (s .args .marks .now) _ (s .args .clauses .now) small (cc) (cc) (s .pre .1 .1 .1 .0) _ _ _ _ (d .ensures) (s .args .c .next) (s .pre .0 .some) in
+    let k = known (s .args .nodes .now) (s .args .inputs .now) (s .args .id) (s .args .i) (s .args .want) (s .args .lits .now) _ (s .args .marks .now) _ (s .args .clauses .now) small (s .pre .1 .1 .0 .0) (s .pre .1 .1 .0 .1) (s .pre .1 .1 .1 .0) _ _ _ _ (d .ensures) (s .args .c .next) (s .pre .0 .some) in
     omega (arith, k .fits, s .pre .1 .1 .1 .2, s .pre .1 .1 .1 .3)
 
 -- src/lib.rt:53:9
@@ -69,7 +69,7 @@ returns : tie.Need-returns
 returns c = let s = c .before .before .before .before .before .before .before .before .before .before .before .before .before .before .before .before in
     let small : length (s .args .clauses .now) ≤ 2 ^ 62 = omega (arith, s .good .1 .1 .1 .1 .0) in
     let d = c .before .before .before .before .before .before .before .before .before .define-unweighted-rec in
-    let k = known (s .args .nodes .now) (s .args .inputs .now) (s .args .id) (s .args .i) (s .args .want) (s .args .lits .now) _ (s .args .marks .now) _ (s .args .clauses .now) small (cc) (cc) (s .pre .1 .1 .1 .0) _ _ _ _ (d .ensures) (s .args .c .next) (s .pre .0 .some) in
+    let k = known (s .args .nodes .now) (s .args .inputs .now) (s .args .id) (s .args .i) (s .args .want) (s .args .lits .now) _ (s .args .marks .now) _ (s .args .clauses .now) small (s .pre .1 .1 .0 .0) (s .pre .1 .1 .0 .1) (s .pre .1 .1 .1 .0) _ _ _ _ (d .ensures) (s .args .c .next) (s .pre .0 .some) in
     let h : s .args .c .last + 1 < (plainRun (s .args .nodes .now) (s .args .inputs .now) (s .args .lits .now) (s .args .marks .now) (s .args .c .next) (s .args .id) (s .args .i) (s .args .want)) .next = omega (arith, k .next, c .if1 .taken, s .pre .0 .some) in
     record { answer = sym (no-vars _ _ _ _ h); lits-are = refl; marks-are = refl; row-is = k .row-is }
 
@@ -78,7 +78,7 @@ add-if2 : tie.Need-add-if2
 add-if2 c = let s = c .before .before .before .before .before .before .before .before .before .before .before .before .before .before .before .before .before in
     let small : length (s .args .clauses .now) ≤ 2 ^ 62 = omega (arith, s .good .1 .1 .1 .1 .0) in
     let d = c .before .before .before .before .before .before .before .before .before .before .define-unweighted-rec in
-    let k = known (s .args .nodes .now) (s .args .inputs .now) (s .args .id) (s .args .i) (s .args .want) (s .args .lits .now) _ (s .args .marks .now) _ (s .args .clauses .now) small (cc) (cc) (s .pre .1 .1 .1 .0) _ _ _ _ (d .ensures) (s .args .c .next) (s .pre .0 .some) in
+    let k = known (s .args .nodes .now) (s .args .inputs .now) (s .args .id) (s .args .i) (s .args .want) (s .args .lits .now) _ (s .args .marks .now) _ (s .args .clauses .now) small (s .pre .1 .1 .0 .0) (s .pre .1 .1 .0 .1) (s .pre .1 .1 .1 .0) _ _ _ _ (d .ensures) (s .args .c .next) (s .pre .0 .some) in
     omega (arith, k .words, s .pre .1 .1 .1 .1, s .good .1 .1 .1 .1 .0)
 
 -- src/lib.rt:56:9
@@ -98,7 +98,7 @@ returns-2 : tie.Need-returns-2
 returns-2 c = let s = c .before .before .before .before .before .before .before .before .before .before .before .before .before .before .before .before .before .before in
     let small : length (s .args .clauses .now) ≤ 2 ^ 62 = omega (arith, s .good .1 .1 .1 .1 .0) in
     let d = c .before .before .before .before .before .before .before .before .before .before .before .define-unweighted-rec in
-    let k = known (s .args .nodes .now) (s .args .inputs .now) (s .args .id) (s .args .i) (s .args .want) (s .args .lits .now) _ (s .args .marks .now) _ (s .args .clauses .now) small (cc) (cc) (s .pre .1 .1 .1 .0) _ _ _ _ (d .ensures) (s .args .c .next) (s .pre .0 .some) in
+    let k = known (s .args .nodes .now) (s .args .inputs .now) (s .args .id) (s .args .i) (s .args .want) (s .args .lits .now) _ (s .args .marks .now) _ (s .args .clauses .now) small (s .pre .1 .1 .0 .0) (s .pre .1 .1 .0 .1) (s .pre .1 .1 .1 .0) _ _ _ _ (d .ensures) (s .args .c .next) (s .pre .0 .some) in
     let v : (plainRun (s .args .nodes .now) (s .args .inputs .now) (s .args .lits .now) (s .args .marks .now) (s .args .c .next) (s .args .id) (s .args .i) (s .args .want)) .next ≤ s .args .c .last + 1 = omega (arith, k .next, c .before .before .if1 .left, s .pre .0 .some) in
     let o : length (s .args .clauses .now) < s .args .c .words + length ((plainRun (s .args .nodes .now) (s .args .inputs .now) (s .args .lits .now) (s .args .marks .now) (s .args .c .next) (s .args .id) (s .args .i) (s .args .want)) .out) = omega (arith, k .words, c .if2 .taken, s .good .1 .1 .1 .1 .0) in
     record { answer = sym (no-room _ _ _ _ v o); lits-are = refl; marks-are = refl; row-is = k .row-is }
@@ -108,7 +108,7 @@ define-unweighted-rec-requires-2 : tie.Need-define-unweighted-rec-requires-2
 define-unweighted-rec-requires-2 c κs = let s = c .before .before .before .before .before .before .before .before .before .before .before .before .before .before .before .before .before .before .before .before .before in
     let small : length (s .args .clauses .now) ≤ 2 ^ 62 = omega (arith, s .good .1 .1 .1 .1 .0) in
     let d = c .before .before .before .before .before .before .before .before .before .before .before .before .before .before .define-unweighted-rec in
-    let k = known (s .args .nodes .now) (s .args .inputs .now) (s .args .id) (s .args .i) (s .args .want) (s .args .lits .now) _ (s .args .marks .now) _ (s .args .clauses .now) small (cc) (cc) (s .pre .1 .1 .1 .0) _ _ _ _ (d .ensures) (s .args .c .next) (s .pre .0 .some) in
+    let k = known (s .args .nodes .now) (s .args .inputs .now) (s .args .id) (s .args .i) (s .args .want) (s .args .lits .now) _ (s .args .marks .now) _ (s .args .clauses .now) small (s .pre .1 .1 .0 .0) (s .pre .1 .1 .0 .1) (s .pre .1 .1 .1 .0) _ _ _ _ (d .ensures) (s .args .c .next) (s .pre .0 .some) in
     let v : (plainRun (s .args .nodes .now) (s .args .inputs .now) (s .args .lits .now) (s .args .marks .now) (s .args .c .next) (s .args .id) (s .args .i) (s .args .want)) .next ≤ s .args .c .last + 1 = omega (arith, k .next, c .before .before .before .before .before .if1 .left, s .pre .0 .some) in
     let row = d .last .1 .1 .1 .1 .0 in
     let small1 : length row ≤ 2 ^ 62 = rw (k .row-is) small in
@@ -144,7 +144,7 @@ returns-3 : tie.Need-returns-3
 returns-3 c = let s = c .before .before .before .before .before .before .before .before .before .before .before .before .before .before .before .before .before .before .before .before .before .before .before .before .before .before .before .before in
     let small : length (s .args .clauses .now) ≤ 2 ^ 62 = omega (arith, s .good .1 .1 .1 .1 .0) in
     let d = c .before .before .before .before .before .before .before .before .before .before .before .before .before .before .before .before .before .before .before .before .before .define-unweighted-rec in
-    let k = known (s .args .nodes .now) (s .args .inputs .now) (s .args .id) (s .args .i) (s .args .want) (s .args .lits .now) _ (s .args .marks .now) _ (s .args .clauses .now) small (cc) (cc) (s .pre .1 .1 .1 .0) _ _ _ _ (d .ensures) (s .args .c .next) (s .pre .0 .some) in
+    let k = known (s .args .nodes .now) (s .args .inputs .now) (s .args .id) (s .args .i) (s .args .want) (s .args .lits .now) _ (s .args .marks .now) _ (s .args .clauses .now) small (s .pre .1 .1 .0 .0) (s .pre .1 .1 .0 .1) (s .pre .1 .1 .1 .0) _ _ _ _ (d .ensures) (s .args .c .next) (s .pre .0 .some) in
     let v : (plainRun (s .args .nodes .now) (s .args .inputs .now) (s .args .lits .now) (s .args .marks .now) (s .args .c .next) (s .args .id) (s .args .i) (s .args .want)) .next ≤ s .args .c .last + 1 = omega (arith, k .next, c .before .before .before .before .before .before .before .before .before .before .before .before .if1 .left, s .pre .0 .some) in
     let o : s .args .c .words + length ((plainRun (s .args .nodes .now) (s .args .inputs .now) (s .args .lits .now) (s .args .marks .now) (s .args .c .next) (s .args .id) (s .args .i) (s .args .want)) .out) ≤ length (s .args .clauses .now) = omega (arith, k .words, c .before .before .before .before .before .before .before .before .before .before .if2 .left, s .good .1 .1 .1 .1 .0) in
     let row = d .last .1 .1 .1 .1 .0 in

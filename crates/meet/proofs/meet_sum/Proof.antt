@@ -31,8 +31,8 @@ add-y c = let s = c .before .before .before .before in
 weigh-requires : tie.Need-weigh-requires
 weigh-requires c κs = let s = c .before .before .before .before .before .before .before in
     let small : length (s .args .clauses .now) ≤ 2 ^ 62 = omega (arith, s .good .1 .1 .1 .1 .1 .0) in (
-      fit-dry _ _ (s .args .lits .now) _ (s .args .marks .now) _ (runOf (s .args .c)) _ (cc) (cc) small (s .pre .0 .fit),
-      (s .pre .0 .generals, (record { below = s .pre .1 .0 .below; out = omega (arith, s .pre .1 .0 .out) }, sum-dry-ends (s .args .nodes .now) (s .args .inputs .now) (s .args .keys .now) (s .args .lits .now) _ (s .args .marks .now) _ (s .args .clauses .now) (s .args .id) (s .args .j + 1) small (s .pre .0 .few) (cc) (cc))),
+      fit-dry _ _ (s .args .lits .now) _ (s .args .marks .now) _ (runOf (s .args .c)) _ (s .pre .1 .1 .0) (s .pre .1 .1 .1) small (s .pre .0 .fit),
+      (s .pre .0 .generals, (record { below = s .pre .1 .0 .below; out = omega (arith, s .pre .1 .0 .out) }, sum-dry-ends (s .args .nodes .now) (s .args .inputs .now) (s .args .keys .now) (s .args .lits .now) _ (s .args .marks .now) _ (s .args .clauses .now) (s .args .id) (s .args .j + 1) small (s .pre .0 .few) (s .pre .1 .1 .0) (s .pre .1 .1 .1))),
     )
 
 -- src/lib.rt:50:16
@@ -44,7 +44,7 @@ sub-words : tie.Need-sub-words
 sub-words c = let s = c .before .before .before .before .before .before .before .before .before .before .before .before .before .before in
     let small : length (s .args .clauses .now) ≤ 2 ^ 62 = omega (arith, s .good .1 .1 .1 .1 .1 .0) in
     let d = c .before .before .before .before .before .before .weigh in
-    let k = sum-known (s .args .nodes .now) (s .args .inputs .now) (s .args .keys .now) (s .args .lits .now) _ (s .args .marks .now) _ (s .args .clauses .now) (s .args .id) (s .args .j + 1) small (s .pre .0 .few) (cc) (cc) _ _ _ _ (d .ensures .is) (s .args .c .next) (s .pre .0 .fit .some) in
+    let k = sum-known (s .args .nodes .now) (s .args .inputs .now) (s .args .keys .now) (s .args .lits .now) _ (s .args .marks .now) _ (s .args .clauses .now) (s .args .id) (s .args .j + 1) small (s .pre .0 .few) (s .pre .1 .1 .0) (s .pre .1 .1 .1) _ _ _ _ (d .ensures .is) (s .args .c .next) (s .pre .0 .fit .some) in
     omega (arith, k .words)
 
 -- src/lib.rt:52:8
@@ -56,7 +56,7 @@ add-if1-2 : tie.Need-add-if1-2
 add-if1-2 c = let s = c .before .before .before .before .before .before .before .before .before .before .before .before .before .before .before .before in
     let small : length (s .args .clauses .now) ≤ 2 ^ 62 = omega (arith, s .good .1 .1 .1 .1 .1 .0) in
     let d = c .before .before .before .before .before .before .before .before .weigh in
-    let k = sum-known (s .args .nodes .now) (s .args .inputs .now) (s .args .keys .now) (s .args .lits .now) _ (s .args .marks .now) _ (s .args .clauses .now) (s .args .id) (s .args .j + 1) small (s .pre .0 .few) (cc) (cc) _ _ _ _ (d .ensures .is) (s .args .c .next) (s .pre .0 .fit .some) in
+    let k = sum-known (s .args .nodes .now) (s .args .inputs .now) (s .args .keys .now) (s .args .lits .now) _ (s .args .marks .now) _ (s .args .clauses .now) (s .args .id) (s .args .j + 1) small (s .pre .0 .few) (s .pre .1 .1 .0) (s .pre .1 .1 .1) _ _ _ _ (d .ensures .is) (s .args .c .next) (s .pre .0 .fit .some) in
     omega (arith, k .fits, s .pre .0 .last, s .pre .0 .next)
 
 -- src/lib.rt:53:9
@@ -76,7 +76,7 @@ returns : tie.Need-returns
 returns c = let s = c .before .before .before .before .before .before .before .before .before .before .before .before .before .before .before .before .before in
     let small : length (s .args .clauses .now) ≤ 2 ^ 62 = omega (arith, s .good .1 .1 .1 .1 .1 .0) in
     let d = c .before .before .before .before .before .before .before .before .before .weigh in
-    let k = sum-known (s .args .nodes .now) (s .args .inputs .now) (s .args .keys .now) (s .args .lits .now) _ (s .args .marks .now) _ (s .args .clauses .now) (s .args .id) (s .args .j + 1) small (s .pre .0 .few) (cc) (cc) _ _ _ _ (d .ensures .is) (s .args .c .next) (s .pre .0 .fit .some) in
+    let k = sum-known (s .args .nodes .now) (s .args .inputs .now) (s .args .keys .now) (s .args .lits .now) _ (s .args .marks .now) _ (s .args .clauses .now) (s .args .id) (s .args .j + 1) small (s .pre .0 .few) (s .pre .1 .1 .0) (s .pre .1 .1 .1) _ _ _ _ (d .ensures .is) (s .args .c .next) (s .pre .0 .fit .some) in
     let h : s .args .c .last + 1 < (weighRun (s .args .nodes .now) (s .args .inputs .now) (s .args .keys .now) (s .args .lits .now) (s .args .marks .now) (s .args .c .next) (s .args .id) (s .args .j + 1)) .next = omega (arith, k .next, c .if1 .taken, s .pre .0 .fit .some) in
     record { answer = sym (no-vars _ _ _ _ h); lits-are = refl; marks-are = refl; row-is = k .row-is }
 
@@ -85,7 +85,7 @@ add-if2 : tie.Need-add-if2
 add-if2 c = let s = c .before .before .before .before .before .before .before .before .before .before .before .before .before .before .before .before .before .before in
     let small : length (s .args .clauses .now) ≤ 2 ^ 62 = omega (arith, s .good .1 .1 .1 .1 .1 .0) in
     let d = c .before .before .before .before .before .before .before .before .before .before .weigh in
-    let k = sum-known (s .args .nodes .now) (s .args .inputs .now) (s .args .keys .now) (s .args .lits .now) _ (s .args .marks .now) _ (s .args .clauses .now) (s .args .id) (s .args .j + 1) small (s .pre .0 .few) (cc) (cc) _ _ _ _ (d .ensures .is) (s .args .c .next) (s .pre .0 .fit .some) in
+    let k = sum-known (s .args .nodes .now) (s .args .inputs .now) (s .args .keys .now) (s .args .lits .now) _ (s .args .marks .now) _ (s .args .clauses .now) (s .args .id) (s .args .j + 1) small (s .pre .0 .few) (s .pre .1 .1 .0) (s .pre .1 .1 .1) _ _ _ _ (d .ensures .is) (s .args .c .next) (s .pre .0 .fit .some) in
     omega (arith, k .words, k .fits, s .pre .0 .words, s .good .1 .1 .1 .1 .1 .0)
 
 -- src/lib.rt:56:9
@@ -105,7 +105,7 @@ returns-2 : tie.Need-returns-2
 returns-2 c = let s = c .before .before .before .before .before .before .before .before .before .before .before .before .before .before .before .before .before .before .before in
     let small : length (s .args .clauses .now) ≤ 2 ^ 62 = omega (arith, s .good .1 .1 .1 .1 .1 .0) in
     let d = c .before .before .before .before .before .before .before .before .before .before .before .weigh in
-    let k = sum-known (s .args .nodes .now) (s .args .inputs .now) (s .args .keys .now) (s .args .lits .now) _ (s .args .marks .now) _ (s .args .clauses .now) (s .args .id) (s .args .j + 1) small (s .pre .0 .few) (cc) (cc) _ _ _ _ (d .ensures .is) (s .args .c .next) (s .pre .0 .fit .some) in
+    let k = sum-known (s .args .nodes .now) (s .args .inputs .now) (s .args .keys .now) (s .args .lits .now) _ (s .args .marks .now) _ (s .args .clauses .now) (s .args .id) (s .args .j + 1) small (s .pre .0 .few) (s .pre .1 .1 .0) (s .pre .1 .1 .1) _ _ _ _ (d .ensures .is) (s .args .c .next) (s .pre .0 .fit .some) in
     let v : (weighRun (s .args .nodes .now) (s .args .inputs .now) (s .args .keys .now) (s .args .lits .now) (s .args .marks .now) (s .args .c .next) (s .args .id) (s .args .j + 1)) .next ≤ s .args .c .last + 1 = omega (arith, k .next, c .before .before .if1 .left, s .pre .0 .fit .some) in
     let o : length (s .args .clauses .now) < s .args .c .words + length ((weighRun (s .args .nodes .now) (s .args .inputs .now) (s .args .keys .now) (s .args .lits .now) (s .args .marks .now) (s .args .c .next) (s .args .id) (s .args .j + 1)) .out) = omega (arith, k .words, c .if2 .taken, s .good .1 .1 .1 .1 .1 .0) in
     record { answer = sym (no-room _ _ _ _ v o); lits-are = refl; marks-are = refl; row-is = k .row-is }
@@ -115,7 +115,7 @@ weigh-requires-2 : tie.Need-weigh-requires-2
 weigh-requires-2 c κs = let s = c .before .before .before .before .before .before .before .before .before .before .before .before .before .before .before .before .before .before .before .before .before .before in
     let small : length (s .args .clauses .now) ≤ 2 ^ 62 = omega (arith, s .good .1 .1 .1 .1 .1 .0) in
     let d = c .before .before .before .before .before .before .before .before .before .before .before .before .before .before .weigh in
-    let k = sum-known (s .args .nodes .now) (s .args .inputs .now) (s .args .keys .now) (s .args .lits .now) _ (s .args .marks .now) _ (s .args .clauses .now) (s .args .id) (s .args .j + 1) small (s .pre .0 .few) (cc) (cc) _ _ _ _ (d .ensures .is) (s .args .c .next) (s .pre .0 .fit .some) in
+    let k = sum-known (s .args .nodes .now) (s .args .inputs .now) (s .args .keys .now) (s .args .lits .now) _ (s .args .marks .now) _ (s .args .clauses .now) (s .args .id) (s .args .j + 1) small (s .pre .0 .few) (s .pre .1 .1 .0) (s .pre .1 .1 .1) _ _ _ _ (d .ensures .is) (s .args .c .next) (s .pre .0 .fit .some) in
     let v : (weighRun (s .args .nodes .now) (s .args .inputs .now) (s .args .keys .now) (s .args .lits .now) (s .args .marks .now) (s .args .c .next) (s .args .id) (s .args .j + 1)) .next ≤ s .args .c .last + 1 = omega (arith, k .next, c .before .before .before .before .before .if1 .left, s .pre .0 .fit .some) in (
       s .pre .0 .fit,
       (s .pre .0 .generals, (record { below = s .pre .1 .0 .below; out = omega (arith, s .pre .1 .0 .out) }, sum-real-ends (s .args .nodes .now) (s .args .inputs .now) (s .args .keys .now) (s .args .lits .now) (s .args .marks .now) _ (s .args .clauses .now) (s .args .id) (s .args .j + 1) small (k .row-is) (runOf (s .args .c)) (s .pre .0 .fit .counted) (omega (arith, s .pre .0 .last)))),
@@ -150,7 +150,7 @@ returns-3 : tie.Need-returns-3
 returns-3 c = let s = c .before .before .before .before .before .before .before .before .before .before .before .before .before .before .before .before .before .before .before .before .before .before .before .before .before .before .before .before .before in
     let small : length (s .args .clauses .now) ≤ 2 ^ 62 = omega (arith, s .good .1 .1 .1 .1 .1 .0) in
     let d = c .before .before .before .before .before .before .before .before .before .before .before .before .before .before .before .before .before .before .before .before .before .weigh in
-    let k = sum-known (s .args .nodes .now) (s .args .inputs .now) (s .args .keys .now) (s .args .lits .now) _ (s .args .marks .now) _ (s .args .clauses .now) (s .args .id) (s .args .j + 1) small (s .pre .0 .few) (cc) (cc) _ _ _ _ (d .ensures .is) (s .args .c .next) (s .pre .0 .fit .some) in
+    let k = sum-known (s .args .nodes .now) (s .args .inputs .now) (s .args .keys .now) (s .args .lits .now) _ (s .args .marks .now) _ (s .args .clauses .now) (s .args .id) (s .args .j + 1) small (s .pre .0 .few) (s .pre .1 .1 .0) (s .pre .1 .1 .1) _ _ _ _ (d .ensures .is) (s .args .c .next) (s .pre .0 .fit .some) in
     let v : (weighRun (s .args .nodes .now) (s .args .inputs .now) (s .args .keys .now) (s .args .lits .now) (s .args .marks .now) (s .args .c .next) (s .args .id) (s .args .j + 1)) .next ≤ s .args .c .last + 1 = omega (arith, k .next, c .before .before .before .before .before .before .before .before .before .before .before .before .if1 .left, s .pre .0 .fit .some) in
     let o : s .args .c .words + length ((weighRun (s .args .nodes .now) (s .args .inputs .now) (s .args .keys .now) (s .args .lits .now) (s .args .marks .now) (s .args .c .next) (s .args .id) (s .args .j + 1)) .out) ≤ length (s .args .clauses .now) = omega (arith, k .words, c .before .before .before .before .before .before .before .before .before .before .if2 .left, s .good .1 .1 .1 .1 .1 .0) in
     let q = c .before .before .before .before .before .before .weigh2 in
