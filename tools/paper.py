@@ -60,11 +60,8 @@ class Db:
         """Rows of these lengths, contents 0, counters all 0."""
         n, i, k, l, m, c, wi, wb = lengths
         self.length = dict(words=n, inputs=i, keys=k, lits=l, marks=m, clauses=c)
-        self.words, self.inputs, self.keys = {}, {}, {}
-        self.lits, self.marks, self.clauses = [0] * l, [0] * m, {}
-        self.words = [0] * n
-        self.inputs = [0] * i
-        self.keys = [0] * k
+        self.words, self.inputs, self.keys, self.lits, self.marks = [0] * n, [0] * i, [0] * k, [0] * l, [0] * m
+        self.clauses = {}
         self.work_int, self.work_byte = wi, wb
         self.F = self.next = self.last = 0
         self.nodes = self.ins = self.cells = self.len = 0

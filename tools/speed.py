@@ -110,7 +110,12 @@ def times(program, benches):
         print(f"{ms:9.3f} ms  {name}", flush=True)
 
 
-same()
-named = [a for a in sys.argv[1:] if a in CASES]
-for name in named or CASES:
-    times(name, [a for a in sys.argv[1:] if a not in CASES and name == "bench_count"])
+def main():
+    same()
+    named = [a for a in sys.argv[1:] if a in CASES]
+    for name in named or CASES:
+        times(name, [a for a in sys.argv[1:] if a not in CASES and name == "bench_count"])
+
+
+if __name__ == "__main__":
+    main()
