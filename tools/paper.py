@@ -52,6 +52,80 @@ class Room:
         self.words.append(0)
 
 
+class Seen:
+    """A node as the table check sees it: its words, its children's, its keys, and how many leaves and cells come before it."""
+
+    def __init__(self, db, i, leaves, cells):
+        self.db, self.id, self.leaves, self.cells, self.words = db, i, leaves, cells, db.node(i)
+        self.kind, self.left, self.lmul, self.right, self.rmul, self.first, self.count, self.depth = self.words
+        if self.kind not in (LEAF, DUMMY):
+            l, r = db.node(self.left), db.node(self.right)
+            self.deeper, self.general = max(l[7], r[7]), GENERAL in (l[0], r[0])
+            self.outputs = db.count(self.left) + db.count(self.right)
+            self.keys, self.marks = (row[self.first:self.first + self.count] for row in (db.keys, db.marks))
+
+
+# "The table check accepts exactly": each rule with its name.
+IN_ROWS = [
+    ("nodes inside the row", lambda t: t.nodes <= t.length["words"] // 8),
+    ("inputs inside the row", lambda t: t.ins <= t.length["inputs"]),
+    ("cells inside the key row", lambda t: t.cells <= t.length["keys"]),
+    ("cells inside the literal row", lambda t: t.cells <= t.length["lits"]),
+    ("cells inside the mark row", lambda t: t.cells <= t.length["marks"]),
+    ("clause words inside the row", lambda t: t.len <= t.length["clauses"]),
+]
+OF_COUNTERS = [
+    ("nodes within the limit", lambda t: t.nodes <= NODES),
+    ("cells within the limit", lambda t: t.cells <= CELLS),
+    ("1 <= F", lambda t: 1 <= t.F),
+    ("F <= next", lambda t: t.F <= t.next),
+    ("next <= last + 1", lambda t: t.next <= t.last + 1),
+    ("last within the limit", lambda t: t.last <= LAST),
+]
+OF_INPUT = [
+    ("an input literal is not 0", lambda t, x: x != 0),
+    ("an input variable is below F", lambda t, x: abs(x) < t.F),
+]
+OF_CELL = [
+    ("a mark is at most 3", lambda t, x, m: m <= 3),
+    ("a mark only where there is a literal", lambda t, x, m: m == 0 or x != 0),
+    ("a cell literal is 0 or at least F", lambda t, x, m: x == 0 or x >= t.F),
+    ("a cell literal is below next", lambda t, x, m: x < t.next or x == 0),
+]
+OF_NODE = [
+    ("a kind is at most 3", None, lambda n: n.kind <= 3),
+    ("the left id is smaller", (UNIT, GENERAL), lambda n: n.left < n.id),
+    ("the right id is smaller", (UNIT, GENERAL), lambda n: n.right < n.id),
+    ("cells follow without gaps", (UNIT, GENERAL), lambda n: n.first == n.cells),
+    ("depth is 1 + the larger", (UNIT, GENERAL), lambda n: n.depth == 1 + n.deeper),
+    ("depth within the limit", (UNIT, GENERAL), lambda n: n.depth <= DEPTH),
+    ("no child of a unit is general", (UNIT,), lambda n: not n.general),
+    ("a unit's left multiplier is 1", (UNIT,), lambda n: n.lmul == 1),
+    ("a unit's right multiplier is 1", (UNIT,), lambda n: n.rmul == 1),
+    ("a unit's cells are left count + right count", (UNIT,), lambda n: n.count == n.outputs),
+    ("a unit's keys are 1, 2, ..", (UNIT,), lambda n: n.keys == list(range(1, len(n.keys) + 1))),
+    ("a left multiplier is at least 1", (GENERAL,), lambda n: 1 <= n.lmul),
+    ("a right multiplier is at least 1", (GENERAL,), lambda n: 1 <= n.rmul),
+    ("a left multiplier within the limit", (GENERAL,), lambda n: n.lmul <= MUL),
+    ("a right multiplier within the limit", (GENERAL,), lambda n: n.rmul <= MUL),
+    ("equal multipliers only over a general child", (GENERAL,), lambda n: n.lmul != n.rmul or n.general),
+    ("a general node has a key", (GENERAL,), lambda n: n.count >= 1),
+    ("keys are L, R and all sums", (GENERAL,), lambda n: n.keys == n.db.sums(n.left, n.lmul, n.right, n.rmul)),
+    ("a key within the limit", (GENERAL,), lambda n: max(n.keys, default=0) <= KEY),
+    ("a general node's mark is at most 1", (GENERAL,), lambda n: max(n.marks, default=0) <= 1),
+    ("a leaf's first is its place", (LEAF,), lambda n: n.first == n.leaves),
+    ("a dummy's first is 0", (DUMMY,), lambda n: n.first == 0),
+]
+for k, name in ((1, "left id"), (2, "left multiplier"), (3, "right id"), (4, "right multiplier"), (6, "number of cells")):
+    OF_NODE += [(f"a {kind} has no {name}", (n,), lambda n, k=k: n.words[k] == 0) for kind, n in (("leaf", LEAF), ("dummy", DUMMY))]
+OF_NODE += [(f"a {kind} has depth 1", (n,), lambda n: n.depth == 1) for kind, n in (("leaf", LEAF), ("dummy", DUMMY))]
+OF_TOTALS = [
+    ("as many inputs as leaves", lambda t, leaves, cells: t.ins == leaves),
+    ("as many cells as the nodes have", lambda t, leaves, cells: t.cells == cells),
+]
+CHECKED = [rule[0] for rule in IN_ROWS + OF_COUNTERS + OF_INPUT + OF_CELL + OF_NODE + OF_TOTALS]
+
+
 class Db:
     def __init__(self, lengths=ROWS):
         self.rows(lengths)
@@ -70,73 +144,47 @@ class Db:
     # ---- reading
 
     def node(self, i):
-        return self.words[8 * i:8 * i + 8]
+        """The eight words; past the row's end they read as 0."""
+        return (self.words[8 * i:8 * i + 8] + [0] * 8)[:8]
 
     def count(self, i):
         """How many values the node has."""
-        w = self.words
-        k = w[8 * i]
-        return 1 if k == LEAF else 0 if k == DUMMY else w[8 * i + 6]
+        kind, _, _, _, _, _, n, _ = self.node(i)
+        return 1 if kind == LEAF else 0 if kind == DUMMY else n
 
     def values(self, i):
-        k, _, _, _, _, first, n, _ = self.node(i)
-        return [1] if k == LEAF else [] if k == DUMMY else self.keys[first:first + n]
+        kind, _, _, _, _, first, n, _ = self.node(i)
+        return [1] if kind == LEAF else [] if kind == DUMMY else self.keys[first:first + n]
 
     def literal(self, run, i, at):
-        k, _, _, _, _, first, _, _ = self.node(i)
-        return self.inputs[first] if k == LEAF else run.lit(first + at)
+        kind, _, _, _, _, first, _, _ = self.node(i)
+        return self.inputs[first] if kind == LEAF else run.lit(first + at)
 
     # ---- the table check
 
     def check(self):
         """The table check. The calls keep a good table good; `poke` and `set` make it unknown."""
         if self.known is None:
-            self.known = self.verdict()
+            self.known = not self.faults()
         return self.known
 
-    def verdict(self):
-        n = self.length
-        if not (self.nodes <= min(NODES, n["words"] // 8) and self.ins <= n["inputs"]):
-            return False
-        if not (self.cells <= min(CELLS, n["keys"], n["lits"], n["marks"]) and self.len <= n["clauses"]):
-            return False
-        if not (1 <= self.F <= self.next <= self.last + 1 <= LAST + 1):
-            return False
-        if any(x == 0 or abs(x) >= self.F for x in self.inputs[:self.ins]):
-            return False
+    def faults(self):
+        """The names of the rules that do not hold. Outside the rows there is nothing to look at."""
+        broken = {name for name, holds in IN_ROWS if not holds(self)}
+        if broken:
+            return broken
+        broken = {name for name, holds in OF_COUNTERS if not holds(self)}
+        for x in self.inputs[:self.ins]:
+            broken |= {name for name, holds in OF_INPUT if not holds(self, x)}
         for x, m in zip(self.lits[:self.cells], self.marks[:self.cells]):
-            if m > 3 or (m and x == 0) or not (x == 0 or self.F <= x < self.next):
-                return False
+            broken |= {name for name, holds in OF_CELL if not holds(self, x, m)}
         leaves = cells = 0
         for i in range(self.nodes):
-            kind, left, lm, right, rm, first, n, depth = self.node(i)
-            if kind == LEAF:
-                if (left, lm, right, rm, first, n, depth) != (0, 0, 0, 0, leaves, 0, 1):
-                    return False
-                leaves += 1
-            elif kind == DUMMY:
-                if (left, lm, right, rm, first, n, depth) != (0, 0, 0, 0, 0, 0, 1):
-                    return False
-            elif kind in (UNIT, GENERAL):
-                if left >= i or right >= i or first != cells or first + n > self.cells:
-                    return False
-                want = 1 + max(self.words[8 * left + 7], self.words[8 * right + 7])
-                if depth != want or depth > DEPTH:
-                    return False
-                general = GENERAL in (self.words[8 * left], self.words[8 * right])
-                keys = self.keys[first:first + n]
-                if kind == UNIT:
-                    if general or (lm, rm) != (1, 1) or keys != list(range(1, self.count(left) + self.count(right) + 1)):
-                        return False
-                else:
-                    if not (1 <= lm <= MUL and 1 <= rm <= MUL) or (lm == rm and not general) or n < 1:
-                        return False
-                    if keys != self.sums(left, lm, right, rm) or any(m > 1 for m in self.marks[first:first + n]):
-                        return False
-                cells += n
-            else:
-                return False
-        return leaves == self.ins and cells == self.cells
+            n = Seen(self, i, leaves, cells)
+            broken |= {name for name, kinds, holds in OF_NODE if (kinds is None or n.kind in kinds) and not holds(n)}
+            leaves += n.kind == LEAF
+            cells += 0 if n.kind in (LEAF, DUMMY) else n.count
+        return broken | {name for name, holds in OF_TOTALS if not holds(self, leaves, cells)}
 
     def sums(self, a, m, b, n):
         """L, R and all sums l + r, ascending, each once."""
