@@ -12,8 +12,9 @@ import sys
 NODES, CELLS, DEPTH, MUL, KEY, LAST = 4096, 16384, 64, 65535, 2147483647, 2147483647
 LEAF, UNIT, GENERAL, DUMMY = 0, 1, 2, 3
 IF, ONLY = 1, 2
-# the program's own rows: node words, inputs, keys, literals, marks, clause words, working area
-ROWS = [32768, 4096, 16384, 16384, 16384, 1048576, 16384, 16384]
+# the program's own rows: node words, inputs, keys, literals, marks, clause words, working area. They hold one node, input and
+# cell more than the limits, so that a limit is reached before a row ends
+ROWS = [8 * (NODES + 1), NODES + 1, CELLS + 1, CELLS + 1, CELLS + 1, 1048576, CELLS + 1, CELLS + 1]
 # the longest line that the program holds; a longer one is `bad`, wherever it does not begin with #
 LINE = 65536
 
@@ -65,7 +66,7 @@ class Seen:
             self.keys, self.marks = (row[self.first:self.first + self.count] for row in (db.keys, db.marks))
 
 
-# "The table check accepts exactly": each rule with its name.
+# "The table check accepts exactly": each rule with its name. tools/plans.py has for each a table that breaks it alone.
 IN_ROWS = [
     ("nodes inside the row", lambda t: t.nodes <= t.length["words"] // 8),
     ("inputs inside the row", lambda t: t.ins <= t.length["inputs"]),
@@ -478,7 +479,7 @@ class Db:
 
     def set(self, counter, value):
         if counter in ("work_int", "work_byte"):
-            if value > 16384:
+            if value > ROWS[-1]:
                 raise Bad
             setattr(self, counter, value)
             return

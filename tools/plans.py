@@ -6,7 +6,8 @@
 Makes the plans, with a fixed seed, runs them through ORACLE (a program that answers plans with what the Rust's own module
 does), turns its lines into those that `replay` is to write, and writes both files and a report. Where document 01 departs
 from the Rust the line of document 01 stands, and only by a rule of RULES, which names the class and counts it. A line that
-differs and is in no class stops the run: it is a bug in one of the two.
+differs and is in no class stops the run: it is a bug in one of the two. So does a line that document 01 does not answer as it
+was meant to be answered: then the plan does not ask what it was made for.
 """
 import collections
 import itertools
@@ -28,7 +29,14 @@ class Twin(paper.Db):
         run.add(-c, o)
 
 
-# ---- making plans: each is a list of lines that begins with `fresh` or `rows`
+# ---- making plans: each is a list of lines that begins with `fresh` or `rows`. After ` -> ` stands how document 01's answer to a line must begin; a
+# line without it must be done (number 0). Random plans alone say nothing of this.
+
+
+def asked(line):
+    """A line, and how its answer must begin."""
+    line, _, want = line.partition(" -> ")
+    return line, want or "0"
 
 
 class Maker:
@@ -136,7 +144,7 @@ class Maker:
     def make(self):
         r = self.rng
         inputs = r.randint(1, 7)
-        self.say(f"fresh {inputs + 1} {inputs + r.randint(20, 90)}")
+        self.say(f"fresh {inputs + 1} {inputs + r.choice((6, 12, 90, 90))}")
         steps = [self.leaf] * 3 + [self.join] * 5 + [self.count] * (3 if self.weights else 7) + [self.sum] * (6 if self.weights else 1)
         steps += [self.again, self.value, self.upkeep, self.odd]
         for _ in range(r.randint(1, 3)):
@@ -154,26 +162,28 @@ class Maker:
         return self.lines
 
 
+CHAIN = ["fresh 2 99", "leaf 1", "dummy", "join 0 1 1 1"] + [f"join {k} 1 1 1" for k in range(2, 64)]  # the last, 64, has depth 64
+
+
 def paper_cases():
     """"Sums at the counter": P1 to P8 and the ones that run as programs."""
-    two = ["leaf 1", "leaf 2", "join 0 1 1 1"]
-    three = ["leaf 1", "leaf 2", "leaf 3", "join 0 1 1 1", "join 3 1 2 1", "count 4 1 if"]
-    yield ["fresh 3 9"] + two + ["count 2 0 both", "count 2 1 both", "count 2 0 both", "dump"]
-    yield ["fresh 3 9"] + two + ["count 2 0 if", "count 2 0 both"]
-    yield ["fresh 4 9"] + three + ["dump"]
-    for words in (16, 17):
-        yield [f"rows 40 3 5 5 5 {words} 5 5", "fresh 4 9"] + three + (["dump"] if words == 17 else [])
-    yield ["rows 40 3 5 5 5 16 5 5", "fresh 4 5"] + three
-    yield ["fresh 3 9", "leaf 1", "leaf 2", "join 0 3 1 2", "sum 2 5", "sum 2 3", "sum 2 4", "dump"]
-    yield ["fresh 2 9", "dummy", "leaf 1", "join 0 1 1 1", "count 2 0 both", "dump"]
-    yield ["fresh 2 9", "leaf 1", "join 0 1 0 1", "count 1 1 if"]
-    yield ["fresh 3 9", "leaf 1", "leaf 2", "join 0 2 1 2"]
-    yield ["fresh 1 9", "dummy", "join 0 2 0 3"]
+    two = ["fresh 3 9", "leaf 1", "leaf 2", "join 0 1 1 1"]
+    three = ["leaf 1", "leaf 2", "leaf 3", "join 0 1 1 1", "join 3 1 2 1"]
+    p3 = "count 4 1 if -> 0 6 | -2 4 0 -1 4 0 -1 -2 5 0 -4 -3 6 0 -5 6 0 |"
+    yield two + ["count 2 0 both -> 0 3 | -2 3 0 -1 3 0 1 2 -3 0 |", "count 2 1 both -> 0 4 | -1 -2 4 0 1 -4 0 2 -4 0 |", "count 2 0 both -> 0 3 | |", "dump"]
+    yield two + ["count 2 0 if", "count 2 0 both -> 0 3 | 1 2 -3 0 |"]
+    yield ["fresh 4 9"] + three + [p3, "dump"]
+    yield ["rows 40 3 5 5 5 16 5 5", "fresh 4 9"] + three + ["count 4 1 if -> 13"]
+    yield ["rows 40 3 5 5 5 17 5 5", "fresh 4 9"] + three + [p3, "dump"]
+    yield ["rows 40 3 5 5 5 16 5 5", "fresh 4 5"] + three + ["count 4 1 if -> 12"]
+    yield ["fresh 3 9", "leaf 1", "leaf 2", "join 0 3 1 2", "sum 2 5 -> 0 3 | -1 -2 3 0 |", "sum 2 3 -> 0 4 | -1 4 0 |", "sum 2 4 -> 1", "dump -> 0 0 leaf 1 ; 1 leaf 2 ; 2 general 0 3 1 2 depth 2 cells 2:0:0 3:4:1 5:3:1"]
+    yield ["fresh 2 9", "dummy", "leaf 1", "join 0 1 1 1", "count 2 0 both -> 0 2 | -1 2 0 1 -2 0 |", "dump"]
+    yield ["fresh 2 9", "leaf 1", "join 0 1 0 1", "count 1 1 if -> 0 2 | -1 -1 2 0 |"]
+    yield ["fresh 3 9", "leaf 1", "leaf 2", "join 0 2 1 2 -> 7"]
+    yield ["fresh 1 9", "dummy", "join 0 2 0 3 -> 8"]
     yield ["fresh 3 9", "leaf 1", "leaf 2", "join 0 65535 1 1", "dump"]
-    yield ["fresh 3 9", "leaf 1", "leaf 2", "join 0 65536 1 1"]
-    # depth 64 done, 65 not
-    chain = ["fresh 2 99", "leaf 1", "dummy", "join 0 1 1 1"] + [f"join {k} 1 1 1" for k in range(2, 64)]
-    yield chain + ["count 64 0 both", "join 64 1 1 1"]
+    yield ["fresh 3 9", "leaf 1", "leaf 2", "join 0 65536 1 1 -> 7"]
+    yield CHAIN + ["count 64 0 both", "join 64 1 1 1 -> 10"]
 
 
 def larger():
@@ -196,10 +206,10 @@ def larger():
     yield lines + [f"sum {made - 1} {v}" for v in (40, 41, 17, 90)] + [f"reserve {made - 1}", "reset", f"sum {made - 1} 40"]
     # a shared child under a tower
     yield ["fresh 2 999", "leaf 1"] + [f"join {k} 1 {k} 1" for k in range(5)] + ["count 5 7 both", "reserve 5", "count 5 31 if", "reset", "count 5 7 if", "dump"]
-    # the node and input limits: 4,096 leaves, and one more
-    yield ["fresh 5000 9999"] + [f"leaf {v}" for v in range(1, 4097)] + ["leaf 4096", "leaf 4097"]
-    # the cell limit: 16,382 cells, 2 more, and one more
-    yield ["fresh 3 99999", "leaf 1"] + [f"join {k} 1 {k} 1" for k in range(13)] + ["leaf 2", "join 0 1 14 1", "dummy", "join 0 1 16 1"]
+    # the node limit: 4,096 leaves, and one more; there is room for it in the rows
+    yield ["fresh 5000 9999"] + [f"leaf {v}" for v in range(1, 4097)] + ["leaf 4096 -> 0 4095", "leaf 4097 -> 11"]
+    # the cell limit: 16,382 cells, 2 more, and one more; there is room for it in the rows
+    yield ["fresh 3 99999", "leaf 1"] + [f"join {k} 1 {k} 1" for k in range(13)] + ["leaf 2", "join 0 1 14 1", "dummy", "join 0 1 16 1 -> 11"]
 
 
 SEMANTICS = ("if", "onlyif", "both")
@@ -304,324 +314,416 @@ def random_plans():
 
 
 def smallest():
-    """The smallest plan of each class of departures: docs/DIFFERENCES.md."""
-    yield ["fresh 2 9", "leaf 1", "dummy", "join 0 1 1 1", "count 2 0 onlyif", "dump", "count 2 0 if"]
-    yield ["fresh 2 9", "leaf 1", "count 0 1 if"]
-    yield ["fresh 3 9", "leaf 1", "leaf 2", "join 0 1 1 1", "count 2 2 if"]
-    yield ["fresh 1 9", "dummy", "count 0 0 if"]
-    yield ["fresh 3 9", "leaf 1", "leaf 2", "join 0 1 1 2", "count 2 0 if", "dump"]
-    yield ["fresh 3 9", "leaf 1", "leaf 2", "join 0 1 1 2", "sum 2 4"]
-    yield ["fresh 1 9", "dummy", "value 0"]
-    yield ["fresh 3 9", "leaf 1", "value 0 1"]
-    yield ["fresh 1 9", "count 0 0 if", "sum 0 0", "reserve 0", "value 0", "join 0 1 0 1"]
-    yield ["fresh 3 9", "leaf 1", "leaf 2", "join 0 2 1 2"]
-    yield ["fresh 1 9", "dummy", "join 0 1 0 2"]
-    yield ["fresh 2 9", "leaf 1", "join 0 65535 0 1", "join 1 65535 1 1"]
-    yield ["fresh 2 9", "leaf 1", "join 0 0 0 1"]
-    yield ["fresh 2 9", "leaf 1", "join 0 65536 0 1"]
-    yield ["fresh 1 9", "leaf 0"]
-    yield ["fresh 1 9", "leaf 1"]
-    yield ["fresh 1 9", "leaf -2147483648"]
-    yield ["fresh 2 1", "leaf 1", "join 0 1 0 1", "count 1 0 if"]
-    yield ["fresh 2 1", "leaf 1", "join 0 1 0 1", "reserve 1"]
-    yield ["rows 24 1 2 2 2 2 3 3", "fresh 2 9", "leaf 1", "join 0 1 0 1", "count 1 0 if"]
-    yield ["rows 24 1 2 2 2 9 3 3", "fresh 2 9", "leaf 1", "leaf -1"]
+    """The smallest plan of each class of departures: docs/DIFFERENCES.md. Each class must be among them."""
+    yield ["fresh 2 9", "leaf 1", "dummy", "join 0 1 1 1", "count 2 0 onlyif -> 0 2 | 1 -2 0 |", "dump", "count 2 0 if -> 0 2 | -1 2 0 |"]
+    yield ["fresh 2 9", "leaf 1", "count 0 1 if -> 1"]
+    yield ["fresh 2 9", "leaf 1", "join 0 1 0 1", "count 1 2 if -> 1", "dump"]
+    yield ["fresh 1 9", "dummy", "count 0 0 if -> 1"]
+    yield ["fresh 2 9", "leaf 1", "join 0 1 0 2", "count 1 0 if -> 5", "dump"]
+    yield ["fresh 1 9", "dummy", "sum 0 1 -> 1"]
+    yield ["fresh 2 9", "leaf 1", "join 0 1 0 2", "sum 1 4 -> 1", "sum 1 0 -> 1"]
+    yield ["fresh 1 9", "dummy", "value 0 -> 0 0"]
+    yield ["fresh 3 9", "leaf 1", "value 0 1 -> 14"]
+    yield ["fresh 2 9", "leaf 1", "value 0 -> 14"]
+    yield ["fresh 1 9"] + [f"{x} -> 4" for x in ("count 0 0 if", "sum 0 0", "reserve 0", "value 0", "join 0 1 0 1")]
+    yield ["fresh 2 9", "leaf 1", "join 0 2 0 2 -> 7"]
+    yield ["fresh 2 9", "leaf 1", "join 0 0 0 1 -> 7"]
+    yield ["fresh 2 9", "leaf 1", "join 0 65536 0 1 -> 7"]
+    yield ["fresh 1 9", "dummy", "join 0 1 0 2 -> 8"]
+    yield ["fresh 2 9", "leaf 1", "join 0 65535 0 1", "join 1 65535 1 1 -> 9"]
+    yield ["fresh 1 9", "dummy"] + [f"join {k} 1 0 1" for k in range(63)] + ["join 63 1 0 1 -> 10"]
+    yield ["fresh 1 9", "leaf 0 -> 6"]
+    yield ["fresh 1 9", "leaf 1 -> 6"]
+    yield ["fresh 1 9", "leaf -2147483648 -> 6"]
+    yield ["rows 0 0 0 0 0 0 0 0", "fresh 1 9", "dummy -> 11"]
+    yield ["fresh 2 1", "leaf 1", "join 0 1 0 1", "count 1 0 if -> 12"]
+    yield ["fresh 2 1", "leaf 1", "join 0 1 0 1", "reserve 1 -> 12"]
+    yield ["rows 16 1 2 2 2 2 2 2", "fresh 2 9", "leaf 1", "join 0 1 0 1", "count 1 0 if -> 13"]
 
 
-# ---- what document 01 alone answers: bad tables, bad lines, refusals that the Rust does not have
+# ---- what document 01 alone answers: bad tables, refusals that the Rust does not have, bad lines
+
+KIND, LEFT, LMUL, RIGHT, RMUL, FIRST, COUNT, DEPTH = range(8)
 
 
-def good_table():
-    """A table with every kind of node, literals and marks; 9 nodes, 12 cells."""
-    return [
-        "rows 80 4 16 16 16 200 16 16",
-        "fresh 5 60",
-        "leaf 1",
-        "leaf -2",
-        "leaf 3",
-        "dummy",
-        "join 0 1 1 1",
-        "join 4 1 3 1",
-        "join 5 2 2 3",
-        "join 0 2 6 2",
-        "join 3 1 3 1",
-        "count 4 0 both",
-        "sum 6 5",
-        "count 5 1 if",
-        "dump",
-        "check",
-    ]
+def word(node, k, value):
+    return f"poke words {8 * node + k} {value}"
 
 
-CALLS = ["check", "leaf 4", "leaf 0", "dummy", "join 0 1 1 1", "join 0 1 99 1", "count 4 1 both", "count 99 0 if", "sum 6 5", "sum 6 1", "reserve 7", "reset", "clear", "value 6 1111", "value 6"]
+def node(i, *words):
+    """A node by hand, as one text."""
+    return "; ".join(word(i, k, v) for k, v in enumerate(words))
+
+
+def keys(first, *values):
+    return "; ".join(f"poke keys {first + k} {v}" for k, v in enumerate(values))
+
+
+# Nothing stands on the leaf 3 and on the nodes 8 to 11, so that a change there breaks nothing above it.
+GOOD = [
+    "rows 104 5 24 24 24 200 24 24",
+    "fresh 6 60",
+    "leaf 1",
+    "leaf -2",
+    "leaf 3",
+    "leaf 4",
+    "dummy -> 0 4",
+    "join 0 1 1 1 -> 0 5",  # a unit: cells 0 and 1
+    "join 5 1 4 1 -> 0 6",  # over the dummy: 2 and 3
+    "join 6 2 2 3 -> 0 7",  # general: 4 to 8
+    "join 0 2 7 2 -> 0 8",  # over a general node, equal multipliers: 9 to 16
+    "join 4 1 4 1 -> 0 9",  # without cells
+    "join 0 3 1 2 -> 0 10",  # general: 17 to 19, keys 2, 3, 5
+    "join 0 1 2 1 -> 0 11",  # a unit: 20 and 21
+    "count 5 0 both",
+    "sum 7 5",
+    "count 6 1 if",
+    "sum 10 5",
+    "count 11 0 both -> 0 12",  # the last variable that is taken
+]
+# On a bad table each of these is 2, whatever else would refuse it or find that it is done: 4, 6, 14, no such output, an equal literal, the dummy.
+CALLS = ["check", "leaf 5", "leaf 1", "leaf 0", "dummy", "join 0 1 1 1", "join 0 1 99 1", "count 5 1 both", "count 99 0 if", "sum 7 5", "sum 7 1", "reserve 8", "reset", "clear", "value 7 11111", "value 7"]
+
+
+def bad_table(table, rules, pokes, twins):
+    """A plan: the table with the pokes breaks exactly these rules, so that every call is 2 and changes nothing; put back, it is good. Before that the
+    twins, which pass."""
+    db, plan = paper.Db(), table + ["check", f"# {', '.join(sorted(rules))}"]
+    for line in plan:
+        paper.answer(db, asked(line)[0])
+
+    def dump():
+        """Of the two large tables none."""
+        text = db.dump()
+        return [f"dump -> 0 {text} |"] if len(text) < 10000 else []
+
+    for lines, broken in [(twin, set()) for twin in twins] + [(pokes, rules)]:
+        lines, undo, good = lines.split("; "), [], dump()
+        for line in lines:
+            *what, _ = line.split()
+            now = getattr(db, what[1])[int(what[2])] if what[0] == "poke" else getattr(db, "len" if what[1] == "length" else what[1])
+            undo.insert(0, f"{' '.join(what)} {now}")
+            paper.answer(db, line)
+        if db.faults() != broken:
+            sys.exit(f"{'; '.join(lines)}\n  breaks {sorted(db.faults())}\n  and is meant for {sorted(broken)}")
+        plan = plan + lines + (dump() + [f"{x} -> 2" for x in CALLS] + dump() if broken else ["check"]) + undo + ["check"] + good
+        for line in undo:
+            paper.answer(db, line)
+    return plan
 
 
 def bad_tables():
-    """For each rule of the check an entry that breaks it and nothing else: 2 from every call, and nothing changed; then back, and the table is good."""
-    # rows: nodes 0 leaf, 1 leaf, 2 leaf, 3 dummy, 4 unit (cells 0-1), 5 unit over the dummy (2-3), 6 general 2*5 + 3*2 (4-8), 7 general 2*0 + 2*6 (9-..), 8 unit without cells
-    db = paper.Db()
-    for x in good_table():
-        paper.answer(db, x)
-    w = db.words
+    """For each rule of the table check a table that breaks it and nothing else, and where there is one the neighbour that passes. tools/paper.py has
+    the rules and names those that a table breaks: none may be without such a table."""
+    plans, alone = [], set()
 
-    def at(node, word):
-        return 8 * node + word
+    def bad(rules, pokes, *twins, table=GOOD):
+        rules = {rules} if isinstance(rules, str) else set(rules)
+        alone.update(rules if len(rules) == 1 else ())
+        plans.append(bad_table(table, rules, pokes, twins))
 
-    pokes = []
-
-    def poke(why, row, index, value):
-        pokes.append((why, [f"poke {row} {index} {value}"], [f"poke {row} {index} {getattr(db, row)[index]}"]))
-
-    def setc(why, name, value):
-        now = getattr(db, "len" if name == "length" else name)
-        pokes.append((why, [f"set {name} {value}"], [f"set {name} {now}"]))
-
-    setc("F at least 1", "F", 0)
-    setc("F at most next", "next", 4)
-    setc("next at most last + 1", "last", db.next - 2)
-    setc("last + 1 at most 2147483648", "last", 2147483648)
-    setc("last, the greatest number", "last", 2**64 - 1)
-    setc("more nodes than are there", "nodes", db.nodes + 1)
-    setc("more nodes than the row holds", "nodes", 11)
-    setc("nodes, the greatest number", "nodes", 2**64 - 1)
-    setc("fewer nodes", "nodes", 7)
-    setc("fewer inputs", "ins", 2)
-    setc("more inputs", "ins", 4)
-    setc("more inputs than the row holds", "ins", 5)
-    setc("inputs, the greatest number", "ins", 2**64 - 1)
-    setc("fewer cells", "cells", db.cells - 1)
-    setc("more cells", "cells", db.cells + 1)
-    setc("more cells than the rows hold", "cells", 17)
-    setc("cells, the greatest number", "cells", 2**64 - 1)
-    setc("more clause words than the row holds", "length", 201)
-    setc("clause words, the greatest number", "length", 2**64 - 1)
-    for word, name in ((1, "left"), (2, "left multiplier"), (3, "right"), (4, "right multiplier"), (5, "first"), (6, "cells"), (7, "depth")):
-        poke(f"a leaf's {name}", "words", at(1, word), w[at(1, word)] + 1)
-        poke(f"a dummy's {name}", "words", at(3, word), w[at(3, word)] + 1)
-    poke("kind 4", "words", at(4, 0), 4)
-    poke("kind, the greatest number", "words", at(4, 0), 2**32 - 1)
-    poke("a leaf said to be a dummy", "words", at(0, 0), 3)
-    poke("a unit said to be general", "words", at(4, 0), 2)
-    poke("a general said to be a unit", "words", at(6, 0), 1)
-    poke("left id the node's own", "words", at(5, 1), 5)
-    poke("left id above", "words", at(4, 1), 7)
-    poke("left id far above", "words", at(4, 1), 2**32 - 1)
-    poke("right id the node's own", "words", at(8, 3), 8)
-    poke("right id far above", "words", at(5, 3), 2**32 - 1)
-    poke("a unit's left multiplier", "words", at(4, 2), 2)
-    poke("a unit's right multiplier", "words", at(4, 4), 2)
-    poke("a general's left multiplier 0", "words", at(6, 2), 0)
-    poke("a general's right multiplier 0", "words", at(6, 4), 0)
-    poke("a general's left multiplier 65536", "words", at(6, 2), 65536)
-    poke("a general's right multiplier 65536", "words", at(6, 4), 65536)
-    poke("a general's multiplier that its keys do not have", "words", at(6, 2), 4)
-    poke("a unit's first", "words", at(4, 5), 1)
-    poke("a general's first", "words", at(6, 5), w[at(6, 5)] + 1)
-    poke("a first far away", "words", at(6, 5), 2**32 - 1)
-    poke("the first of a unit without cells", "words", at(8, 5), 0)
-    poke("a unit's cells, one fewer", "words", at(4, 6), 1)
-    poke("a unit's cells, one more", "words", at(4, 6), 3)
-    poke("a unit's cells, the greatest number", "words", at(4, 6), 2**32 - 1)
-    poke("a general's cells, one fewer", "words", at(7, 6), w[at(7, 6)] - 1)
-    poke("a general's cells, none", "words", at(7, 6), 0)
-    poke("a unit's depth, one fewer", "words", at(5, 7), 2)
-    poke("a unit's depth, one more", "words", at(8, 7), 3)
-    poke("depth 0", "words", at(8, 7), 0)
-    poke("a unit's key", "keys", 1, 3)
-    poke("a unit's first key 0", "keys", 0, 0)
-    poke("a general's key, one more", "keys", w[at(6, 5)] + w[at(6, 6)] - 1, db.keys[w[at(6, 5)] + w[at(6, 6)] - 1] + 1)
-    poke("a general's key twice", "keys", w[at(6, 5)] + 1, db.keys[w[at(6, 5)]])
-    poke("a general's key 0", "keys", w[at(6, 5)], 0)
-    poke("a general's key above the limit", "keys", db.cells - 1, 2147483648)
-    poke("an input literal 0", "inputs", 1, 0)
-    poke("an input literal F", "inputs", 1, 5)
-    poke("an input literal -F", "inputs", 1, -5)
-    poke("an input literal -2147483648", "inputs", 1, -2147483648)
-    empty = next(k for k in range(db.cells) if db.lits[k] == 0)
-    poke("a mark 4", "marks", 0, 4)
-    poke("a mark 255", "marks", 0, 255)
-    poke("a mark without a literal", "marks", empty, 1)
-    marked = next(k for k in range(w[at(6, 5)], db.cells) if db.marks[k])
-    poke("a general's mark 2", "marks", marked, 2)
-    poke("a general's mark 3", "marks", marked, 3)
-    poke("a marked cell without its literal", "lits", 0, 0)
-    poke("a cell literal below F", "lits", empty, 4)
-    poke("a cell literal next", "lits", empty, db.next)
-    poke("a cell literal, negative", "lits", empty, -db.F)
-    poke("a cell literal -2147483648", "lits", empty, -2147483648)
-    for why, there, back in pokes:
-        yield good_table() + [f"# {why}"] + there + ["dump"] + CALLS + ["dump"] + back + ["check", "dump"]
-    # a key above the limit that the rules of keys would allow: 65535 * 65535, over a key of 65535
-    yield ["rows 80 4 16 16 16 99 16 16", "fresh 2 9", "leaf 1", "join 0 65535 0 1", "join 1 65535 1 1", "join 1 32767 0 1", "dump", "join 2 65535 0 1"]
-    # depth 65, poked: a chain of 64 and one more node by hand
-    chain = ["fresh 2 99", "leaf 1", "dummy", "join 0 1 1 1"] + [f"join {k} 1 1 1" for k in range(2, 64)]
-    by_hand = [f"poke words {8 * 65 + k} {v}" for k, v in enumerate((1, 64, 1, 1, 1, 63, 1, 65))]
-    yield chain + by_hand + ["poke keys 63 1", "set nodes 66", "set cells 64", "check", "count 65 0 if", "poke words 527 64", "check", "set nodes 65", "set cells 63", "check"]
-    # equal multipliers that are not 1, by hand: as a unit, as a general node
-    two = ["rows 40 4 16 16 16 99 16 16", "fresh 3 9", "leaf 1", "leaf 2", "join 0 1 1 1"]
-    yield two + ["poke words 18 2", "poke words 20 2", "check", "poke words 16 2", "poke keys 0 2", "poke keys 1 4", "check", "poke words 20 1", "poke words 22 3", "check"]
-    yield two + ["poke words 16 2", "check", "poke words 18 2", "check", "poke keys 0 1", "poke keys 1 2", "poke keys 2 3", "poke words 22 3", "set cells 3", "check", "sum 2 3"]
+    # counters and rows
+    bad("nodes inside the row", "set nodes 14")
+    bad("nodes inside the row", f"set nodes {2**64 - 1}")
+    bad("nodes inside the row", f"{node(1, 0, 0, 0, 0, 0, 1, 0)}; poke inputs 1 2; set nodes 2; set ins 2", table=["rows 15 2 1 1 1 9 2 2", "fresh 3 9", "leaf 1"])
+    bad("inputs inside the row", "set ins 6")
+    bad("inputs inside the row", f"set ins {2**64 - 1}")
+    for k, row in enumerate(("key", "literal", "mark")):
+        lengths = " ".join("1" if k == j else "2" for j in range(3))
+        bad(f"cells inside the {row} row", f"{node(1, 1, 0, 1, 0, 1, 0, 2, 2)}; {keys(0, 1) if k == 0 else keys(0, 1, 2)}; set nodes 2; set cells 2", table=[f"rows 16 1 {lengths} 9 2 2", "fresh 2 9", "leaf 1"])
+    bad([f"cells inside the {row} row" for row in ("key", "literal", "mark")], f"set cells {2**64 - 1}")
+    bad("clause words inside the row", "set length 201", "set length 200")
+    bad("clause words inside the row", f"set length {2**64 - 1}")
+    units = ["fresh 1 9", "dummy"] + ["join 0 1 0 1"] * 4095
+    bad("nodes within the limit", f"{node(4096, 1, 0, 1, 0, 1, 0, 0, 2)}; set nodes 4097", table=units)
+    tower = ["fresh 3 9", "leaf 1"] + [f"join {k} 1 {k} 1" for k in range(13)] + ["leaf 2", "join 0 1 14 1", "dummy"]
+    bad("cells within the limit", f"{node(17, 1, 0, 1, 16, 1, 16384, 1, 2)}; {keys(16384, 1)}; set nodes 18; set cells 16385", table=tower)
+    bad("1 <= F", "set F 0", "set F 1", table=["fresh 1 9", "dummy", "join 0 1 0 1"])
+    bad("F <= next", "set next 2", "set next 3", table=["fresh 3 9", "leaf 1"])
+    bad("next <= last + 1", "set last 11", "set last 12")
+    bad("last within the limit", "set last 2147483648", "set last 2147483647")
+    bad("last within the limit", f"set last {2**64 - 1}")
+    # inputs and cells: cell 20 has a literal and is marked, cell 21 has none, cell 19 is a general node's
+    bad("an input literal is not 0", "poke inputs 3 0", "poke inputs 3 1")
+    for x, low in ((6, 5), (-6, -5), (2147483647, 5), (-2147483648, -5)):
+        bad("an input variable is below F", f"poke inputs 3 {x}", f"poke inputs 3 {low}")
+    for m in (4, 255):
+        bad("a mark is at most 3", f"poke marks 20 {m}", "poke marks 20 0", "poke marks 20 1", "poke marks 20 2")
+    for m in (2, 3):
+        bad("a general node's mark is at most 1", f"poke marks 19 {m}", "poke marks 19 0")
+    for m in (1, 2, 3):
+        bad("a mark only where there is a literal", f"poke marks 21 {m}", f"poke lits 21 6; poke marks 21 {m}")
+    bad("a mark only where there is a literal", "poke lits 20 0", "poke lits 20 0; poke marks 20 0")
+    for x in (5, 1, -6, -1, -2147483648):
+        bad("a cell literal is 0 or at least F", f"poke lits 21 {x}", "poke lits 21 6")
+    for x in (13, 2147483647):
+        bad("a cell literal is below next", f"poke lits 21 {x}", "poke lits 21 12", f"poke lits 21 {x}; set last 2147483647; set next {x + 1}")
+    # leaves and dummies, word by word
+    for k, name in ((LEFT, "left id"), (LMUL, "left multiplier"), (RIGHT, "right id"), (RMUL, "right multiplier"), (COUNT, "number of cells")):
+        bad(f"a leaf has no {name}", word(3, k, 1))
+        bad(f"a dummy has no {name}", word(4, k, 1))
+    bad("a leaf's first is its place", word(3, FIRST, 4))
+    bad("a leaf's first is its place", word(3, FIRST, 2))
+    bad("a dummy's first is 0", word(4, FIRST, 1))
+    for depth in (0, 2):
+        bad("a leaf has depth 1", word(3, DEPTH, depth))
+        bad("a dummy has depth 1", word(0, DEPTH, depth), table=["fresh 1 9", "dummy"])
+    # .. and with the cell counted as well
+    last = ["rows 24 2 3 3 3 9 3 3", "fresh 3 9", "leaf 1", "join 0 1 0 1"]
+    bad(("a leaf has no number of cells", "as many cells as the nodes have"), f"{word(2, COUNT, 1)}; set cells 3", table=last + ["leaf 2"])
+    bad(("a dummy has no number of cells", "as many cells as the nodes have"), f"{word(2, COUNT, 1)}; set cells 3", table=last + ["dummy"])
+    # kinds
+    for kind in (4, 2**32 - 1):
+        bad("a kind is at most 3", word(11, KIND, kind))
+        bad("a kind is at most 3", word(10, KIND, kind))
+        bad("a kind is at most 3", f"{word(3, KIND, kind)}; set ins 3")
+        bad("a kind is at most 3", word(4, KIND, kind))
+    bad("as many inputs as leaves", word(0, KIND, DUMMY), f"{word(0, KIND, DUMMY)}; set ins 0", table=["fresh 2 9", "leaf 1"])
+    bad("as many inputs as leaves", word(0, KIND, LEAF), f"{word(0, KIND, LEAF)}; poke inputs 0 1; set ins 1", table=["fresh 2 9", "dummy"])
+    bad("equal multipliers only over a general child", f"poke marks 20 1; {word(11, KIND, GENERAL)}", "poke marks 20 1")
+    bad(("a unit's left multiplier is 1", "a unit's right multiplier is 1", "a unit's cells are left count + right count", "a unit's keys are 1, 2, .."), word(10, KIND, UNIT))
+    # totals
+    bad("as many inputs as leaves", "set ins 3")
+    bad("as many inputs as leaves", "poke inputs 4 1; set ins 5")
+    bad("as many cells as the nodes have", "set cells 21")
+    bad("as many cells as the nodes have", "set cells 23")
+    bad("as many cells as the nodes have", "set nodes 11", "set nodes 11; set cells 20")
+    bad(("a leaf's first is its place", "a leaf has depth 1", "as many inputs as leaves"), "set nodes 13", f"{node(12, 0, 0, 0, 0, 0, 4, 0, 1)}; poke inputs 4 5; set ins 5; set nodes 13")
+    # inner nodes: the children, where the cells are, the depth
+    bad("the left id is smaller", word(1, LEFT, 2), table=last + ["leaf 2"])
+    bad("the right id is smaller", word(1, RIGHT, 2), table=last + ["leaf 2"])
+    bad("the left id is smaller", word(11, LEFT, 2**32 - 1), word(11, LEFT, 3))
+    bad("the right id is smaller", word(11, RIGHT, 2**32 - 1), word(11, RIGHT, 3))
+    bad(("the left id is smaller", "depth is 1 + the larger"), word(9, LEFT, 9))
+    bad(("the right id is smaller", "depth is 1 + the larger"), word(9, RIGHT, 9))
+    for first in (0, 16, 18, 2**32 - 1):
+        bad("cells follow without gaps", word(9, FIRST, first))
+    bad("cells follow without gaps", word(11, FIRST, 0))
+    bad("cells follow without gaps", f"{word(11, FIRST, 21)}; {keys(21, 1, 2)}")
+    for i, depth in ((11, 2), (9, 2), (8, 5), (10, 2)):
+        for d in (0, depth - 1, depth + 1):
+            bad("depth is 1 + the larger", word(i, DEPTH, d))
+    bad("depth within the limit", f"{node(65, 1, 64, 1, 1, 1, 63, 1, 65)}; {keys(63, 1)}; set nodes 66; set cells 64", f"{node(65, 1, 63, 1, 1, 1, 63, 1, 64)}; {keys(63, 1)}; set nodes 66; set cells 64", table=CHAIN)
+    # units
+    over = ["fresh 3 9", "leaf 1", "leaf 2", "dummy", "join 0 1 1 2"]
+    bad("no child of a unit is general", word(4, KIND, UNIT), table=over + ["join 3 1 2 1"])
+    bad("no child of a unit is general", word(4, KIND, UNIT), table=over + ["join 2 1 3 1"])
+    for m in (0, 2):
+        bad("a unit's left multiplier is 1", word(11, LMUL, m))
+        bad("a unit's right multiplier is 1", word(11, RMUL, m))
+    bad(("a unit's left multiplier is 1", "a unit's right multiplier is 1"), f"{word(11, LMUL, 2)}; {word(11, RMUL, 2)}")
+    bad("a unit's cells are left count + right count", f"{word(11, COUNT, 1)}; set cells 21")
+    bad("a unit's cells are left count + right count", f"{word(11, COUNT, 3)}; {keys(22, 3)}; set cells 23")
+    bad(("a unit's cells are left count + right count", "as many cells as the nodes have"), f"{word(11, COUNT, 2**32 - 1)}; {keys(22, 3, 4)}")
+    for at, key in ((20, 0), (20, 2), (21, 1), (21, 3)):
+        bad("a unit's keys are 1, 2, ..", keys(at, key))
+    # general nodes: 3 * leaf + 2 * leaf has the keys 2, 3, 5
+    pair = ["fresh 3 9", "leaf 1", "leaf 2", "join 0 3 1 2"]
+    two = f"{word(2, COUNT, 2)}; set cells 2"
+    bad("a left multiplier is at least 1", f"{word(2, LMUL, 0)}; {keys(0, 0, 2)}; {two}", f"{word(2, LMUL, 1)}; {keys(0, 1, 2, 3)}", table=pair)
+    bad("a right multiplier is at least 1", f"{word(2, RMUL, 0)}; {keys(0, 0, 3)}; {two}", f"{word(2, RMUL, 1)}; {keys(0, 1, 3, 4)}", table=pair)
+    bad("a left multiplier within the limit", f"{word(2, LMUL, 65536)}; {keys(0, 2, 65536, 65538)}", f"{word(2, LMUL, 65535)}; {keys(0, 2, 65535, 65537)}", table=pair)
+    bad("a right multiplier within the limit", f"{word(2, RMUL, 65536)}; {keys(0, 3, 65536, 65539)}", f"{word(2, RMUL, 65535)}; {keys(0, 3, 65535, 65538)}", table=pair)
+    for m in (1, 2):
+        bad("equal multipliers only over a general child", f"{word(2, LMUL, m)}; {word(2, RMUL, m)}; {keys(0, m, 2 * m)}; {two}", table=pair)
+    bad("a general node has a key", f"{word(1, KIND, GENERAL)}; {word(1, RMUL, 2)}", table=["fresh 1 9", "dummy", "join 0 1 0 1"])
+    bad("keys are L, R and all sums", two, table=pair)
+    bad("keys are L, R and all sums", f"{word(2, COUNT, 4)}; {keys(3, 6)}; set cells 4", table=pair)
+    bad(("keys are L, R and all sums", "a general node has a key"), f"{word(2, COUNT, 0)}; set cells 0", table=pair)
+    bad("keys are L, R and all sums", word(10, LMUL, 4))
+    bad("keys are L, R and all sums", word(8, RMUL, 3))
+    for some in ((0, 3, 5), (1, 3, 5), (2, 2, 5), (2, 4, 5), (2, 3, 3), (2, 3, 4), (2, 3, 6), (3, 2, 5), (2, 5, 3)):
+        bad("keys are L, R and all sums", keys(17, *some))
+    bad("keys are L, R and all sums", f"{keys(9, 2, 4, 6, 8, 10, 12, 14, 15)}")
+    # the key limit alone: 32769 * 65534 is 2147483646, and a leaf times 1 or times 2 comes on top. Each key is the sum that it must be
+    top = ["fresh 4 9", "leaf 1", "leaf 2", "leaf 3", "join 0 65533 1 1", "join 3 32769 2 1"]
+    bad("a key within the limit", f"{word(4, RMUL, 2)}; {keys(3, 2, 32769, 32771, 2147450877, 2147450879, 2147483646, 2147483648)}", keys(3, 1, 32769, 32770, 2147450877, 2147450878, 2147483646, 2147483647), table=top)
+    if alone != set(paper.CHECKED):
+        sys.exit(f"no table breaks these rules alone: {sorted(set(paper.CHECKED) - alone)}")
+    return plans
 
 
 def refusals():
-    """Each number's edges, one short and just enough."""
-    yield ["check", "leaf 1", "dummy", "join 0 1 0 1", "count 0 0 if", "sum 0 0", "reserve 0", "reset", "clear", "value 0", "dump"]
-    for f, last in ((0, 9), (1, 0), (0, 0), (2, 0), (3, 2), (4, 2), (2147483648, 2147483647), (1, 2147483647), (1, 2147483648), (2147483649, 2147483648), (2**64 - 1, 2**64 - 1), (1, 2**64 - 1), (2**64 - 1, 0)):
-        yield ["fresh 2 5", "leaf 1", f"fresh {f} {last}", "check", "dump", "dummy"]
-    yield ["fresh 2147483648 2147483647", "leaf 2147483647", "leaf -2147483647", "leaf -2147483648", "join 0 1 1 1", "count 2 0 if", "value 0 1", "dump"]
-    yield ["fresh 3 2147483647", "leaf 1", "leaf 2", "join 0 1 1 1", "set next 2147483647", "count 2 1 if", "check", "count 2 0 if", "count 2 1 both", "dump"]
-    # 6 before an equal literal, an equal literal before 11
-    yield ["rows 8 1 1 1 1 1 1 1", "fresh 3 9", "leaf 3", "leaf -3", "leaf 2", "leaf 1", "leaf 2", "dummy", "leaf 0", "dump"]
-    yield ["rows 7 1 1 1 1 1 1 1", "fresh 3 9", "leaf 1", "dummy", "check"]
-    yield ["rows 16 0 1 1 1 1 9 9", "fresh 3 9", "leaf 1", "dummy", "leaf 1", "dummy"]
-    yield ["rows 0 0 0 0 0 0 0 0", "fresh 1 0", "check", "leaf 1", "dummy", "join 0 1 0 1", "count 0 0 if", "sum 0 1", "reserve 0", "value 0", "reset", "clear", "dump"]
-    # 4, 7, 8, 9, 10, 11 of join, and which comes first
-    base = ["rows 80 4 16 16 16 200 16 16", "fresh 3 30", "leaf 1", "dummy", "leaf 2"]
-    yield base + [f"join {a} {m} {b} {n}" for a, m, b, n in ((3, 0, 0, 1), (0, 0, 3, 1), (0, 0, 2, 1), (0, 1, 2, 0), (0, 65536, 2, 1), (0, 1, 2, 65536), (0, 2, 2, 2), (1, 2, 1, 2), (1, 2, 1, 3), (1, 1, 1, 1), (2**64 - 1, 1, 0, 1), (0, 2**64 - 1, 2, 1), (0, 65535, 2, 65535))] + ["dump"]
-    yield base + ["join 0 65535 2 1", "join 3 32767 0 1", "join 3 32768 0 1", "join 3 32767 3 1", "join 0 1 3 32767", "join 1 5 3 32767", "join 1 5 3 32768"]
-    yield base + ["join 0 65535 2 65534", "join 3 16383 3 1", "join 3 16384 3 1", "dump"]
-    yield ["rows 32 4 3 9 9 9 9 9", "fresh 3 30", "leaf 1", "leaf 2", "join 0 1 1 1", "join 2 1 0 1", "join 0 1 0 2", "dump"]
-    yield ["rows 32 4 9 4 9 9 9 9", "fresh 3 30", "leaf 1", "leaf 2", "join 0 1 1 1", "join 2 1 0 1", "join 0 1 0 2", "join 0 1 1 1", "dummy", "dump"]
-    yield ["rows 64 4 9 9 4 9 9 9", "fresh 3 30", "leaf 1", "leaf 2", "join 0 1 1 1", "join 2 1 0 1", "join 0 1 0 2", "join 0 1 1 1", "join 0 1 1 1", "dummy", "join 5 1 5 1", "dump"]
-    # 3: the working area, each row one short and just enough, by cells and by nodes
-    for cells in (5, 3):
-        t = ["rows 80 4 16 16 16 200 5 5", "fresh 4 30", "leaf 1", "leaf 2", "leaf 3", "join 0 1 1 1"] + (["join 3 1 2 1"] if cells == 5 else ["dummy"])
-        asks = ["count 3 0 both", "sum 3 1", "reserve 3", "value 3 110", "count 99 0 if", "value 99", "reset", "clear", "check"]
-        yield t + ["set work_int 4"] + asks + ["set work_int 5", "set work_byte 4"] + asks + ["set work_byte 5"] + asks
-    # 4 before 5, 5 before 1, 1 before 12, 12 before 13
-    yield ["rows 80 4 16 16 16 5 16 16", "fresh 3 2", "leaf 1", "leaf 2", "join 0 1 1 1", "join 0 1 1 2", "count 4 9 if", "count 3 9 if", "count 2 2 if", "sum 4 0", "sum 3 4", "sum 2 3", "sum 2 0", "count 2 0 if", "sum 3 3", "reserve 2", "reserve 3", "reserve 0"]
-    # 12 and 13 at their edges, from a run that passes through children
-    for last in range(4, 8):
-        for words in (0, 16, 17, 18):
-            yield [f"rows 80 4 16 16 16 {words} 16 16", f"fresh 4 {last}", "leaf 1", "leaf 2", "leaf 3", "join 0 1 1 1", "join 3 1 2 1", "count 4 1 if", "dump", "reserve 4", "dump", "count 4 1 if", "clear", "reset", "count 4 1 if", "count 0 0 both"]
-    for last in range(4, 9):
-        for words in (0, 9, 10, 11, 40):
-            yield [f"rows 80 4 16 16 16 {words} 16 16", f"fresh 4 {last}", "leaf 1", "leaf 2", "leaf 3", "join 0 2 1 1", "join 3 1 2 3", "sum 4 6", "dump", "sum 4 3", "sum 4 6", "reserve 4", "dump", "reset", "sum 4 5"]
-    # 14: shorter than F-1, a byte of the first F-1 that is not 0 or 1, and what lies past them
-    yield ["fresh 4 9", "leaf 1", "leaf -2", "join 0 2 1 3"] + [f"value 2 {b}".rstrip() for b in ("", "1", "11", "110", "112", "119", "1109", "0101111", "211", "121", "000", "111", "100", "010")] + ["value 3 110", "value 3"]
-    yield ["fresh 1 0", "dummy", "value 0", "value 0 9", "value 1"]
-    # a done call leaves every entry past the new counts as it stood
-    yield ["rows 40 3 5 5 5 40 5 5"] + [f"poke words {k} {77 + k}" for k in range(40)] + [f"poke keys {k} {50 + k}" for k in range(5)] + [f"poke lits {k} {-60 - k}" for k in range(5)] + [f"poke marks {k} {200 + k}" for k in range(5)] + ["fresh 3 9", "check", "leaf 1", "leaf 2", "join 0 1 1 1", "dump", "count 2 0 both", "reset", "set nodes 4", "dump"]
-    # a mark is only of the cells in use; rows past the counters are never looked at
+    """Each number's edges, one short and just enough, and of two that hold the one that comes first."""
+    # before the first `fresh` all counters are 0, so F is
+    yield [f"{x} -> 2" for x in ("check", "leaf 1", "dummy", "join 0 1 0 1", "count 0 0 if", "sum 0 0", "reserve 0", "reset", "clear", "value 0")] + ["dump"]
+    # 15
+    most = 2**64 - 1
+    for f, last, no in ((0, 9, 15), (1, 0, 0), (0, 0, 15), (2, 0, 15), (3, 2, 0), (4, 2, 15), (2147483648, 2147483647, 0), (1, 2147483647, 0), (1, 2147483648, 15), (2147483649, 2147483648, 15), (most, most, 15), (1, most, 15), (most, 0, 15)):
+        yield ["fresh 2 5", "leaf 1", f"fresh {f} {last} -> {no}", "check", f"dump -> 0 {'0 leaf 1 ' if no else ''}|", f"dummy -> 0 {1 if no else 0}"]
+    # 6 and the greatest variables
+    yield ["fresh 2147483648 2147483647", "leaf 2147483647", "leaf -2147483647", "leaf -2147483648 -> 6", "join 0 1 1 1", "count 2 0 if -> 12", "value 0 1 -> 14", "dump"]
+    yield ["fresh 3 2147483647", "leaf 1", "leaf 2", "join 0 1 1 1", "set next 2147483647", "count 2 1 if -> 0 2147483647", "check", "count 2 0 if -> 12", "count 2 1 both", "dump"]
+    # leaf: 6 before 11, an equal literal before 11; dummy: one that is there before 11
+    yield ["rows 8 1 1 1 1 1 1 1", "fresh 3 9", "leaf 3 -> 6", "leaf -3 -> 6", "leaf 2", "leaf 1 -> 11", "leaf -2 -> 11", "leaf 3 -> 6", "leaf 0 -> 6", "leaf 2 -> 0 0", "dummy -> 11", "dump"]
+    yield ["rows 8 1 1 1 1 1 1 1", "fresh 3 9", "dummy", "dummy -> 0 0", "leaf 1 -> 11", "leaf 0 -> 6", "join 0 1 0 1 -> 11", "dump"]
+    # 11: a row of 7 words holds no node, one of 15 holds one; a node row with room, and no room for the input
+    yield ["rows 7 1 1 1 1 1 1 1", "fresh 3 9", "leaf 1 -> 11", "dummy -> 11", "check"]
+    yield ["rows 15 2 1 1 1 1 1 1", "fresh 3 9", "leaf 1", "leaf 2 -> 11", "dummy -> 11", "check"]
+    yield ["rows 16 0 1 1 1 1 9 9", "fresh 3 9", "leaf 1 -> 11", "dummy", "leaf 1 -> 11", "dummy -> 0 0"]
+    yield ["rows 0 0 0 0 0 0 0 0", "fresh 1 0", "check", "leaf 1 -> 6", "dummy -> 11"] + [f"{x} -> 4" for x in ("join 0 1 0 1", "count 0 0 if", "sum 0 1", "reserve 0", "value 0")] + ["reset", "clear", "dump"]
+    # 11 of join: each of the three cell rows one short and just enough, for a unit and for a general node; then a unit without cells
+    for short in range(3):
+        for n, no in ((4, 11), (5, 0)):
+            row = " ".join(str(n if k == short else 9) for k in range(3))
+            for join in ("join 2 1 0 1", "join 0 1 0 2"):
+                yield [f"rows 64 4 {row} 9 9 9", "fresh 3 30", "leaf 1", "leaf 2", "join 0 1 1 1", f"{join} -> {no}"] + (["join 0 1 1 1"] if no else []) + ["join 0 1 1 1 -> 11", "dummy -> 0 4", "join 4 1 4 1 -> 0 5", "dump"]
+    yield ["rows 32 4 9 9 9 9 9 9", "fresh 3 30", "leaf 1", "leaf 2", "join 0 1 1 1", "join 0 1 1 2", "join 0 1 1 1 -> 11", "join 0 1 1 2 -> 11", "dummy -> 11", "leaf -1 -> 11", "leaf 2 -> 0 1", "dump"]
+    # 4, 7, 8 of join
+    base = ["rows 80 4 40 40 40 200 40 40", "fresh 3 30", "leaf 1", "dummy", "leaf 2"]
+    yield base + [f"join {a} {m} {b} {n} -> {no}" for a, m, b, n, no in ((3, 0, 0, 1, 4), (0, 0, 3, 1, 4), (most, 1, 0, 1, 4), (0, 1, most, 1, 4), (0, 0, 2, 1, 7), (0, 1, 2, 0, 7), (0, 65536, 2, 1, 7), (0, 1, 2, 65536, 7), (0, most, 2, 1, 7), (0, 2, 2, 2, 7), (0, 65535, 2, 65535, 7), (1, 2, 1, 2, 7), (1, 2, 1, 3, 8), (1, 1, 1, 1, 0), (3, 2, 3, 2, 7), (3, 1, 3, 2, 8))] + ["dump"]
+    # 9 of join: 65536 * 32767 + 65535 is the limit; on either side
+    yield base + ["join 0 65535 2 1", "join 3 32767 0 65535", "join 0 65535 3 32767", "join 3 32767 3 1 -> 9", "join 3 1 3 32767 -> 9", "join 1 5 3 32767", "join 1 5 3 32768 -> 9", "join 3 32768 1 5 -> 9", "join 4 1 1 1", "join 4 1 0 1 -> 9", "join 4 2 1 1 -> 9", "dump"]
+    # join, which comes first. The node row is full, so that 11 holds of each; 64 has no value, 127 has one, 190 has large ones, all of depth 64
+    deep = ["leaf 1", "dummy", "join 1 1 1 1"] + [f"join {k} 1 1 1" for k in range(2, 64)] + ["join 0 1 1 1"] + [f"join {k} 1 1 1" for k in range(65, 127)]
+    deep += ["join 0 65535 0 1", "join 128 32767 1 1"] + [f"join {k} 1 1 1" for k in range(129, 190)]
+    yield ["rows 1528 1 999 999 999 9 999 999", "fresh 2 9"] + deep + [f"join {a} {m} {b} {n} -> {no}" for a, m, b, n, no in ((191, 0, 191, 1, 4), (190, 65536, 190, 1, 7), (64, 2, 64, 2, 7), (127, 2, 127, 2, 7), (64, 1, 64, 2, 8), (190, 1, 190, 1, 9), (127, 1, 127, 1, 10), (190, 1, 1, 1, 10), (0, 1, 0, 1, 11), (0, 1, 0, 2, 11))]
+    # 3: each row of the working area one short and just enough, by cells (6, and 5 nodes) and by nodes (5, and 2 cells); before 4 and 14. 2 before 3
+    work = ["count 3 0 both", "sum 3 1", "reserve 3", "value 3 110", "count 99 0 if", "sum 99 0", "reserve 99", "value 99"]
+    rest = ["reset", "clear", "check"]
+    for more, need in (("join 3 1 3 1", 6), ("dummy", 5)):
+        short = [f"{x} -> 3" for x in work] + rest
+        enough = work[:4] + [f"{x} -> 4" for x in work[4:]] + rest
+        t = [f"rows 80 4 16 16 16 200 {need} {need}", "fresh 4 30", "leaf 1", "leaf 2", "leaf 3", "join 0 1 1 1", more]
+        t += [f"set work_int {need - 1}"] + short + [f"set work_int {need}", f"set work_byte {need - 1}"] + short + [f"set work_byte {need}"] + enough
+        yield t + ["set work_int 0", "set F 0"] + [f"{x} -> 2" for x in work + rest]
+    # count, sum and reserve: 4 before 5 and 1, 5 before 1, 1 before 12, 12 before 13. There is no variable, and 3 clause words; past the node count stand
+    # the words of a general node
+    t = ["rows 80 4 16 16 16 3 16 16", "fresh 3 2", "leaf 1", "leaf 2", "join 0 1 1 1", "join 0 1 1 2", word(4, KIND, GENERAL)]
+    t += ["count 4 9 if -> 4", "sum 4 9 -> 4", "reserve 4 -> 4", "count 3 9 if -> 5", "count 3 0 if -> 5", "count 2 2 if -> 1", "sum 3 4 -> 1", "sum 2 3 -> 1", "sum 2 0 -> 1"]
+    yield t + ["count 2 0 if -> 12", "sum 3 3 -> 12", "reserve 2 -> 12", "reserve 3 -> 12", "reserve 0", "set last 9", "count 2 0 if -> 13", "sum 3 3 -> 13", "count 0 0 both", "sum 1 1", "reserve 3"]
+    # 12 and 13 at their edges. The unweighted run takes 3 variables and 17 words, the weighted one 2 and 8; reserve takes what is left of 5, and of 9
+    for join, ask, taken, words, cells in ((("join 0 1 1 1", "join 3 1 2 1"), "count 4 1 if", 3, 17, 5), (("join 0 2 1 1", "join 3 1 2 3"), "sum 4 6", 2, 8, 9)):
+        for room in (0, words - 1, words):
+            for some in (0, taken - 1, taken, cells - 1, cells):
+                no = 12 if some < taken else 13 if room < words else 0
+                t = [f"rows 80 4 16 16 16 {room} 16 16", f"fresh 4 {3 + some}", "leaf 1", "leaf 2", "leaf 3", *join, f"{ask} -> {no}", "dump"]
+                t += [f"reserve 4 -> {0 if some == cells else 12}", "dump", f"{ask} -> {no}", "reset", f"{ask} -> {no or 13}", "clear", f"{ask} -> {no}"]
+                yield t + ["count 0 0 both", "dump"]
+    # 14: shorter than F-1, a byte of the first F-1 that is not 0 or 1, and what lies past them; 4 comes before it
+    yield ["fresh 4 9", "leaf 1", "leaf -2", "join 0 2 1 3"] + [f"value 2 {b} -> 14" for b in ("1", "11", "112", "119", "211", "121", "2110")] + ["value 2 -> 14", "value 3 -> 4", "value 3 112 -> 4"] + [f"value 2 {b} -> 0 {v}" for b, v in (("110", 2), ("1109", 2), ("0101111", 0), ("000", 3), ("111", 2), ("100", 5), ("010", 0))]
+    yield ["fresh 1 0", "dummy", "value 0", "value 0 9", "value 1 -> 4"]
+    # a done call leaves every entry past the new counts as it stood: at the end two nodes past the count show the cells and the input past theirs
+    t = ["rows 48 3 5 5 5 40 6 6"] + [f"poke words {k} {77 + k}" for k in range(32)] + node(4, 1, 0, 1, 1, 1, 2, 3, 2).split("; ") + node(5, 0, 0, 0, 0, 0, 2, 0, 1).split("; ")
+    t += [f"poke {row} {k} {sign * (base + k)}" for row, n, sign, base in (("inputs", 3, -1, 40), ("keys", 5, 1, 50), ("lits", 5, -1, 60), ("marks", 5, 1, 200)) for k in range(n)]
+    t += ["fresh 3 9", "check", "leaf 1", "leaf 2", "join 0 1 1 1", "dummy", "count 2 0 both", "sum 2 2", "reserve 2", "value 2 11", "reset", "clear", "set nodes 6"]
+    yield t + ["dump -> 0 0 leaf 1 ; 1 leaf 2 ; 2 unit 0 1 1 1 depth 2 cells 1:3:0 2:4:0 ; 3 dummy ; 4 unit 0 1 1 1 depth 2 cells 52:-62:202 53:-63:203 54:-64:204 ; 5 leaf -42 |"]
+    # rows past the counters are never looked at
     yield ["rows 40 3 5 5 5 40 5 5", "fresh 3 9", "leaf 1", "leaf 2", "join 0 1 1 1", "poke marks 2 9", "poke lits 3 -7", "poke inputs 2 0", "poke words 24 9", "poke keys 4 7", "poke clauses 39 5", "check", "count 2 0 both", "dump"]
     # literals already there: taken from the row, not anew; two cells may share one
-    yield ["rows 40 3 5 5 5 40 5 5", "fresh 3 9", "leaf 1", "leaf 2", "join 0 1 1 1", "set next 6", "poke lits 0 5", "count 2 0 if", "poke lits 1 5", "count 2 1 both", "count 2 0 both", "poke marks 0 2", "count 2 0 both", "poke marks 1 0", "count 2 1 onlyif", "dump"]
+    yield ["rows 40 3 5 5 5 40 5 5", "fresh 3 9", "leaf 1", "leaf 2", "join 0 1 1 1", "set next 6", "poke lits 0 5", "count 2 0 if -> 0 5 | -2 5 0 -1 5 0 | 6", "poke lits 1 5", "count 2 1 both -> 0 5", "count 2 0 both -> 0 5 | 1 2 -5 0 |", "poke marks 0 2", "count 2 0 both -> 0 5 | -2 5 0 -1 5 0 |", "poke marks 1 0", "count 2 1 onlyif -> 0 5 | 1 -5 0 2 -5 0 |", "dump"]
 
 
 def bad_lines():
-    """Lines that cannot be read, and lines that are passed over."""
-    yield [
-        "fresh 3 9",
-        "leaf 1",
-        "",
-        "# passed over",
-        "#",
-        "   ",
-        " leaf   2 ",
-        "\tjoin 0\t1 1 1",
-        "join 0 1 1",
-        "join 0 1 1 1 1",
-        "join",
-        "joins 0 1 1 1",
-        "Join 0 1 1 1",
-        "leaf",
-        "leaf 1 2",
-        "leaf x",
-        "leaf --1",
-        "leaf -",
-        "leaf +1",
-        "leaf 1-",
-        "leaf 01",
-        "leaf -01",
-        "leaf -0",
-        "leaf 2147483647",
-        "leaf 2147483648",
-        "leaf -2147483648",
-        "leaf -2147483649",
-        "leaf 4294967297",
-        "leaf 18446744073709551617",
-        "fresh 3",
-        "fresh -3 9",
-        "fresh 3 18446744073709551616",
-        "fresh 3 18446744073709551615",
-        "fresh 3 99999999999999999999999999",
+    """Lines that cannot be read, which change nothing, and such as are just within what can be."""
+    rows = [str(n) for n in paper.ROWS]
+    yield ["fresh 3 9", "leaf 1", "", "# passed over", "#", "   ", " leaf   2  -> 0 1", "\tjoin 0\t1 1 1 -> 0 2"] + [
+        f"{line} -> bad"
+        for line in [
+            "join 0 1 1",
+            "join 0 1 1 1 1",
+            "join",
+            "joins 0 1 1 1",
+            "Join 0 1 1 1",
+            "leaf",
+            "leaf 1 2",
+            "leaf x",
+            "leaf --1",
+            "leaf -",
+            "leaf +1",
+            "leaf 1-",
+            "leaf 2147483648",
+            "leaf -2147483649",
+            "leaf 4294967297",
+            "leaf 18446744073709551617",
+            "fresh 3",
+            "fresh -3 9",
+            "fresh 3 18446744073709551616",
+            "fresh 3 99999999999999999999999999",
+            "count 2 0",
+            "count 2 0 If",
+            "count 2 0 if both",
+            "count 2 -1 if",
+            "count 2 18446744073709551616 if",
+            "sum 2",
+            "sum 2 1 1",
+            "reserve",
+            "reserve 2 2",
+            "reserve x",
+            "reset 1",
+            "reset if",
+            "clear 0",
+            "value",
+            "value 2 1x",
+            "value 2 -1",
+            "value 2 11 11",
+            "dummy 1",
+            "check 1",
+            "dump 1",
+            "rows",
+            "rows 1 2 3 4 5 6 7",
+            *(" ".join(["rows"] + [str(int(n) + (j == k)) for j, n in enumerate(rows)]) for k in range(8)),
+            "poke words 0",
+            "poke word 0 0",
+            f"poke words {rows[0]} 0",
+            "poke words 18446744073709551615 0",
+            "poke words 100 4294967296",
+            "poke words 100 -1",
+            "poke keys 100 4294967296",
+            f"poke keys {rows[2]} 1",
+            "poke inputs 4095 2147483648",
+            f"poke inputs {rows[1]} 1",
+            "poke lits 16383 -2147483649",
+            f"poke lits {rows[3]} 1",
+            "poke marks 16383 256",
+            "poke marks 16383 -1",
+            f"poke marks {rows[4]} 1",
+            f"poke clauses {rows[5]} 1",
+            "set",
+            "set f 1",
+            "set F",
+            "set F -1",
+            f"set work_int {int(rows[6]) + 1}",
+            f"set work_byte {int(rows[7]) + 1}",
+            "set last 18446744073709551616",
+        ]
+    ] + [
+        "dump -> 0 0 leaf 1 ; 1 leaf 2 ; 2 unit 0 1 1 1 depth 2 cells 1:0:0 2:0:0 |",
+        "leaf 01 -> 0 0",
+        "leaf -01 -> 0 3",
+        "leaf -0 -> 6",
+        "leaf 2147483647 -> 6",
+        "leaf -2147483648 -> 6",
+        "fresh 3 18446744073709551615 -> 15",
         "fresh 0003 000000000000000000000000000000009",
         "leaf 1",
         "leaf 2",
         "join 0 1 1 1",
-        "count 2 0",
-        "count 2 0 If",
-        "count 2 0 if both",
-        "count 2 -1 if",
-        "count 2 18446744073709551615 if",
-        "count 18446744073709551615 0 if",
-        "count 2 18446744073709551616 if",
+        "count 2 18446744073709551615 if -> 1",
+        "count 18446744073709551615 0 if -> 4",
         "count 2 0 if",
-        "sum 2",
-        "sum 2 1 1",
-        "sum 2 1",
-        "sum 2 18446744073709551615",
-        "reserve",
-        "reserve 2 2",
-        "reserve x",
-        "reset 1",
-        "reset if",
-        "clear 0",
-        "value",
-        "value 2 1x",
-        "value 2 -1",
-        "value 2 11 11",
-        "value 2 11",
-        "dummy 1",
-        "check 1",
-        "dump 1",
-        "rows",
-        "rows 1 2 3 4 5 6 7",
-        "rows 32769 4096 16384 16384 16384 1048576 16384 16384",
-        "rows 32768 4097 16384 16384 16384 1048576 16384 16384",
-        "rows 32768 4096 16385 16384 16384 1048576 16384 16384",
-        "rows 32768 4096 16384 16385 16384 1048576 16384 16384",
-        "rows 32768 4096 16384 16384 16385 1048576 16384 16384",
-        "rows 32768 4096 16384 16384 16384 1048577 16384 16384",
-        "rows 32768 4096 16384 16384 16384 1048576 16385 16384",
-        "rows 32768 4096 16384 16384 16384 1048576 16384 16385",
-        "poke words 0",
-        "poke word 0 0",
-        "poke words 32768 0",
-        "poke words 18446744073709551615 0",
-        "poke words 100 4294967296",
-        "poke words 100 -1",
+        "sum 2 18446744073709551615 -> 1",
+        "value 2 11 -> 0 2",
         "poke words 100 4294967295",
-        "poke keys 100 4294967296",
-        "poke keys 16384 1",
-        "poke inputs 4095 2147483648",
-        "poke inputs 4095 -2147483648",
-        "poke inputs 4096 1",
-        "poke lits 16383 -2147483649",
-        "poke lits 16384 1",
-        "poke marks 16383 256",
-        "poke marks 16383 -1",
-        "poke marks 16384 1",
-        "poke clauses 1048575 -2147483648",
-        "poke clauses 1048576 1",
-        "set",
-        "set f 1",
-        "set F",
-        "set F -1",
-        "set work_int 16385",
-        "set work_byte 16385",
-        "set last 18446744073709551616",
+        f"poke words {paper.ROWS[0] - 1} 1",
+        f"poke keys {paper.ROWS[2] - 1} 4294967295",
+        f"poke inputs {paper.ROWS[1] - 1} -2147483648",
+        f"poke lits {paper.ROWS[3] - 1} -2147483648",
+        f"poke marks {paper.ROWS[4] - 1} 255",
+        f"poke clauses {paper.ROWS[5] - 1} -2147483648",
+        f"set work_int {rows[6]}",
+        f"set work_byte {rows[7]}",
         "check",
         "dump",
-        "rows 32768 4096 16384 16384 16384 1048576 16384 16384",
-        "dump",
-        "check",
+        "rows " + " ".join(rows),
+        "dump -> 0 |",
+        "check -> 2",
         "fresh 1 0",
         "check",
     ]
     # lines as long as the program holds, and one byte longer
     zeros = "0" * (paper.LINE - 6)
-    yield ["fresh 65001 65100", "leaf 65000", "leaf -64999", "join 0 2 1 3", "value 2 " + "1" * 65000, f"leaf {zeros}1", f"leaf 0{zeros}1", "# " + "x" * 70000, "dump"]
+    yield ["fresh 65001 65100", "leaf 65000", "leaf -64999", "join 0 2 1 3", "value 2 " + "1" * 65000 + " -> 0 2", f"leaf {zeros}1 -> 0 3", f"leaf 0{zeros}1 -> bad", "# " + "x" * 70000, "dump"]
 
 
 # ---- the Rust's lines, and the rules
@@ -714,31 +816,34 @@ class Book:
         self.text, self.lines, self.report = [], [], []
         self.lengths = paper.ROWS
 
-    def write(self, line):
-        """Document 01's line, and that with the Rust's dummy path."""
+    def write(self, line, want=""):
+        """Document 01's line, which must begin as it was meant to, and that with the Rust's dummy path."""
         self.text.append(line)
         mine, twin = paper.answer(self.db, line), paper.answer(self.twin, line)
         if mine is not None:
             self.lines.append(mine)
+            if not f"{mine} ".startswith(f"{want} ".lstrip()):
+                sys.exit(f"{line}: meant to be answered {want}, and document 01 answers {mine}\n  after: {'; '.join(self.text[-12:-1])}")
         return mine, twin
 
     def begin(self, plan, counts):
         """A plan that begins with `fresh` has the program's own rows."""
-        if not plan[0].startswith("rows") and self.lengths != paper.ROWS:
+        if not plan[0][0].startswith("rows") and self.lengths != paper.ROWS:
             self.write("rows " + " ".join(str(n) for n in paper.ROWS))
             counts["rows"] += 1
             self.lengths = paper.ROWS
-        for line in plan:
+        for line, _ in plan:
             if line.startswith("rows"):
                 self.lengths = None
 
-    def compare(self, name, plans, program):
+    def compare(self, name, plans, program, free):
         """Each line is accounted for: equal to the Rust's, or in a class."""
         counts = collections.Counter()
-        for plan, theirs in zip(plans, oracle_lines(program, plans)):
+        plans = [[(line, "") if free else asked(line) for line in plan] for plan in plans]
+        for plan, theirs in zip(plans, oracle_lines(program, [[line for line, _ in plan] for plan in plans])):
             self.begin(plan, counts)
-            for at, (line, got) in enumerate(zip(plan, theirs)):
-                mine, twin = self.write(line)
+            for at, ((line, want), got) in enumerate(zip(plan, theirs)):
+                mine, twin = self.write(line, want)
                 if got is None:
                     counts["rows"] += 1
                 elif turned(got) == mine:
@@ -747,16 +852,17 @@ class Book:
                     x = Line(line, self.db, mine, twin, got)
                     found = [(rule, parted) for rule, parted, applies in RULES if applies(x)]
                     if len(found) != 1 or (found[0][1] and at + 1 < len(plan)):
-                        sys.exit(f"{found or 'in no class'}: {line}\n  document 01: {mine}\n  the Rust:    {got}\n  plan: {'; '.join(plan)}")
+                        sys.exit(f"{found or 'in no class'}: {line}\n  document 01: {mine}\n  the Rust:    {got}\n  plan: {'; '.join(x for x, _ in plan)}")
                     counts[found[0][0]] += 1
         self.report.append((name, len(plans), counts))
+        return counts
 
     def alone(self, name, plans):
         counts = collections.Counter()
-        for plan in plans:
+        for plan in [[asked(line) for line in plan] for plan in plans]:
             self.begin(plan, counts)
-            for line in plan:
-                if self.write(line)[0] is not None:
+            for line, want in plan:
+                if self.write(line, want)[0] is not None:
                     counts["document 01 alone"] += 1
         self.report.append((name, len(plans), counts))
 
@@ -796,7 +902,10 @@ def main():
     # its first plan begins before any `rows` or `fresh`, so it comes first
     book.alone("refusals and limits", list(refusals()))
     for name, make in COMPARED:
-        book.compare(name, list(make()), program)
+        counts = book.compare(name, list(make()), program, make is random_plans)
+        missing = [rule for rule, _, _ in RULES if not counts[rule]]
+        if make is smallest and missing:
+            sys.exit(f"no smallest plan shows {missing}")
     for name, make in ALONE:
         book.alone(name, list(make()))
     with open(stdin, "w") as f:
