@@ -2,8 +2,9 @@
  * totdb: a database of totalizers. It makes the CNF clauses that count true literals, or add up their weights.
  *
  * Link with target/staticlib/libtotdb.a, which `rt staticlib totdb` makes (x86-64 Linux). The library keeps nothing of its
- * own: no heap, no globals, no threads. Every call works on rows that the caller lends, and is proved to do what
- * document 01 says for any content of these rows; see crates/totdb/src/lib.rt for the contracts.
+ * own: no heap, no globals, no threads. Every call works on rows that the caller lends, and is proved to do what the rules
+ * say for any content of these rows: docs/RULES.md, which is the customer's document 01 in our words. The contracts are in
+ * crates/totdb/src/lib.rt.
  *
  * ROWS. Each is a pointer and a length in elements.
  *
@@ -86,7 +87,7 @@ enum totdb_demand {
 #define TOTDB_VARIABLE_LIMIT 2147483647
 
 /*
- * The table check: 0 where the rows and counters are a table as document 01 has it, else 2. Reads all, writes nothing.
+ * The table check: 0 where the rows and counters are a table (docs/RULES.md, section 4), else 2. Reads all, writes nothing.
  */
 uint32_t totdb_check(
     const uint32_t *nodes, size_t nodes_len,

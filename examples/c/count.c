@@ -1,5 +1,5 @@
 /*
- * Three inputs, counted: "at least two of them" (P3 of document 01), then a refusal. From the repository's folder:
+ * Three inputs, counted: "at least two of them" (P3 of docs/RULES.md), then a refusal. From the repository's folder:
  *
  *     rt staticlib totdb
  *     gcc -Wall -Wextra -I include examples/c/count.c target/staticlib/libtotdb.a -o target/count && target/count

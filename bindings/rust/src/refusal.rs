@@ -1,6 +1,6 @@
 use std::fmt;
 
-/// Why a call is refused: the numbers of document 01, "Numbers given back". A refused call changes nothing.
+/// Why a call is refused: the numbers of docs/RULES.md, section 5. A refused call changes nothing.
 #[derive(Clone, Copy, Debug, PartialEq, Eq, Hash)]
 #[repr(u32)]
 pub enum Refusal {

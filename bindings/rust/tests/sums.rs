@@ -1,4 +1,4 @@
-//! document 01, "Sums at the counter": P1 to P8 and the cases after them.
+//! The cases of docs/RULES.md, section 11: P1 to P8 and those after them.
 use totdb::{Db, NodeId, Refusal, Room, Semantics};
 
 fn two() -> (Db, NodeId) {
