@@ -4,8 +4,8 @@
     limits.py [ROOT]
 
 Reads the limits of the definitions (crates/paper/specs/Limits.antt) and compares with them the code, the C header, the Rust
-binding, tools/paper.py, the rows of the program `replay`, the bound of multipliers in crates/find, and sentences that name a
-limit. Prints each place where the number differs or is not found, and exits with 1 if there is one.
+binding, tools/paper.py, the rows of the programs `replay` and `cases`, the bound of multipliers in crates/find, and sentences
+that name a limit. Prints each place where the number differs or is not found, and exits with 1 if there is one.
 """
 import os
 import re
@@ -35,11 +35,12 @@ def places(limit):
         others = ["[0-9]+"] * 6
         others[k] = NUMBER
         yield "tools/paper.py", "^NODES, CELLS, DEPTH, MUL, KEY, LAST = " + ", ".join(others) + "$", limit[name]
-    # replay: one node, input and cell more than the limits
+    # the programs over plans, and their twin: one node, input and cell more than the limits
     rows = dict(nodes=limit["words"] * (limit["node"] + 1), inputs=limit["node"] + 1)
     rows.update(dict.fromkeys(("keys", "lits", "marks", "ints", "bytes"), limit["cell"] + 1))
     for name, length in rows.items():
-        yield "crates/replay/src/main.rt", rf"^    let mut {name} = \[0[iu][0-9]+; {NUMBER}\];$", length
+        for program in ("replay", "cases"):
+            yield f"crates/{program}/src/main.rt", rf"^    let mut {name} = \[[0-9]+[iu][0-9]+; {NUMBER}\];$", length
     for file in (header, "bindings/rust/src/refusal.rs"):
         for pattern, want in sentences(limit):
             yield file, pattern, want

@@ -1,7 +1,7 @@
 #!/usr/bin/env python3
 """Document 01 as a plain interpreter, written from the document alone.
 
-    paper.py < PLAN > LINES
+    paper.py [--beside] < PLAN > LINES
 
 Reads the plan language of the program `replay`, one command a line, and answers what document 01 says, one line each:
 `NUMBER ANSWER | WORDS | NEXT`. It shares no code with the proved crates and none with the Rust; tools/plans.py
@@ -587,11 +587,17 @@ def answer(db, line):
 
 
 def main():
+    """The answers; with --beside each behind its line, and the lines that are passed over too, as the program `cases` writes them."""
+    beside = sys.argv[1:] == ["--beside"]
+    lines = sys.stdin.buffer.read().decode("latin-1").split("\n")
     db = Db()
-    for line in sys.stdin.buffer.read().decode("latin-1").split("\n"):
+    # what follows the last end of a line is a line only if there is something
+    for line in lines if lines[-1] else lines[:-1]:
         got = answer(db, line)
+        if beside:
+            got = line if got is None else f"{line} => {got}"
         if got is not None:
-            print(got)
+            sys.stdout.buffer.write((got + "\n").encode("latin-1"))
 
 
 if __name__ == "__main__":
