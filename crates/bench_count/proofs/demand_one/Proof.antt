@@ -14,31 +14,24 @@ use Rattle.count.proofs.define_unweighted_rec.Reads as define-unweighted-rec-re
 use Rattle.rows.proofs.con_len.Reads as con-len-reads
 use Rattle.rows.proofs.node_at.Reads as node-at-reads
 
--- src/main.rt:144:9
 returns : tie.Need-returns
 returns c = search needs
 
--- src/main.rt:147:9
 returns-2 : tie.Need-returns-2
 returns-2 c = search needs
 
--- src/main.rt:150:9
 returns-3 : tie.Need-returns-3
 returns-3 c = search needs
 
--- src/main.rt:152:16
 node-at-requires : tie.Need-node-at-requires
 node-at-requires c κs = search needs
 
--- src/main.rt:152:8
 con-len-requires : tie.Need-con-len-requires
 con-len-requires c κs = search needs
 
--- src/main.rt:153:9
 returns-4 : tie.Need-returns-4
 returns-4 c = search needs
 
--- src/main.rt:155:5
 define-unweighted-rec-requires : tie.Need-define-unweighted-rec-requires
 define-unweighted-rec-requires c κs = let s = c .before .before .before .before .before .before .before .before .before .before .before .before in
     let o : s .args .i < outs (s .args .nodes .now) 8190 = omega (arith, c .before .before .before .if4 .left, c .before .before .before .before .con-len .ensures, ap valueCount (c .before .before .before .before .before .node-at .ensures)) in (
@@ -49,19 +42,15 @@ define-unweighted-rec-requires c κs = let s = c .before .before .before .before
       ),
     )
 
--- src/main.rt:129:1
 same-length : tie.Need-same-length
 same-length c = search needs
 
--- src/main.rt:129:1
 same-length-2 : tie.Need-same-length-2
 same-length-2 c = search needs
 
--- src/main.rt:129:1
 same-length-3 : tie.Need-same-length-3
 same-length-3 c = search needs
 
--- src/main.rt:129:1
 returns-5 : tie.Need-returns-5
 returns-5 c = search needs
 

@@ -16,39 +16,30 @@ Inv-loop nodes inputs keys lits₀ marks₀ clauses₀ ints₀ bytes₀ c id v n
 abbrev μ-loop : tie.MeasureT-loop
 μ-loop nodes inputs keys lits₀ marks₀ clauses₀ ints₀ bytes₀ c id v n at now₀ i₀ lits marks clauses ints bytes now i = n - i
 
--- src/main.rt:202:9
 cell-requires : tie.Need-cell-requires Inv-loop μ-loop
 cell-requires c κs = search needs
 
--- src/main.rt:205:5
 loop-holds : tie.Need-loop-holds Inv-loop μ-loop
 loop-holds c = omega arith
 
--- src/main.rt:206:9
 unmark-requires : tie.Need-unmark-requires Inv-loop μ-loop
 unmark-requires c κs = search needs
 
--- src/main.rt:207:13
 with-words-requires : tie.Need-with-words-requires Inv-loop μ-loop
 with-words-requires c κs = search needs
 
--- src/main.rt:208:9
 call-requires : tie.Need-call-requires Inv-loop μ-loop
 call-requires c κs = search needs
 
--- src/main.rt:221:9
 add-i : tie.Need-add-i Inv-loop μ-loop
 add-i c = omega arith
 
--- src/main.rt:205:5
 loop-less : tie.Need-loop-less Inv-loop μ-loop
 loop-less c = omega arith
 
--- src/main.rt:205:5
 loop-again : tie.Need-loop-again Inv-loop μ-loop
 loop-again c = omega arith
 
--- src/main.rt:188:1
 returns : tie.Need-returns Inv-loop μ-loop
 returns c = search needs
 

@@ -16,43 +16,33 @@ Inv-loop nodes inputs keys lits marks₀ c n ok₀ i₀ marks ok i = (i ≤ n) �
 abbrev μ-loop : tie.MeasureT-loop
 μ-loop nodes inputs keys lits marks₀ c n ok₀ i₀ marks ok i = n - i
 
--- src/main.rt:366:5
 loop-holds : tie.Need-loop-holds Inv-loop μ-loop
 loop-holds c = omega arith
 
--- src/main.rt:367:31
 bit-requires : tie.Need-bit-requires Inv-loop μ-loop
 bit-requires c κs = search needs
 
--- src/main.rt:367:9
 put-mark-requires : tie.Need-put-mark-requires Inv-loop μ-loop
 put-mark-requires c κs = search needs
 
--- src/main.rt:368:23
 table-ok-requires : tie.Need-table-ok-requires Inv-loop μ-loop
 table-ok-requires c κs = search needs
 
--- src/main.rt:368:19
 one-requires : tie.Need-one-requires Inv-loop μ-loop
 one-requires c κs = search needs
 
--- src/main.rt:368:14
 add-ok : tie.Need-add-ok Inv-loop μ-loop
 add-ok c = omega arith
 
--- src/main.rt:369:9
 add-i : tie.Need-add-i Inv-loop μ-loop
 add-i c = omega arith
 
--- src/main.rt:366:5
 loop-less : tie.Need-loop-less Inv-loop μ-loop
 loop-less c = omega arith
 
--- src/main.rt:366:5
 loop-again : tie.Need-loop-again Inv-loop μ-loop
 loop-again c = omega arith
 
--- src/main.rt:355:1
 returns : tie.Need-returns Inv-loop μ-loop
 returns c = search needs
 

@@ -13,31 +13,24 @@ Inv-loop row from to n₀ k₀ n k = (n ≤ k) × (to < 18446744073709551616)
 abbrev μ-loop : tie.MeasureT-loop
 μ-loop row from to n₀ k₀ n k = to - k
 
--- src/main.rt:392:5
 loop-holds : tie.Need-loop-holds Inv-loop μ-loop
 loop-holds c = omega arith
 
--- src/main.rt:393:17
 end-at-requires : tie.Need-end-at-requires Inv-loop μ-loop
 end-at-requires c κs = search needs
 
--- src/main.rt:393:13
 add-n : tie.Need-add-n Inv-loop μ-loop
 add-n c = omega arith
 
--- src/main.rt:394:9
 add-k : tie.Need-add-k Inv-loop μ-loop
 add-k c = omega arith
 
--- src/main.rt:392:5
 loop-less : tie.Need-loop-less Inv-loop μ-loop
 loop-less c = omega arith
 
--- src/main.rt:392:5
 loop-again : tie.Need-loop-again Inv-loop μ-loop
 loop-again c = omega arith
 
--- src/main.rt:389:1
 returns : tie.Need-returns Inv-loop μ-loop
 returns c = search needs
 

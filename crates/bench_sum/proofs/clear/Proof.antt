@@ -14,31 +14,24 @@ Inv-loop marks₀ k₀ marks k = length marks ≡ length marks₀
 abbrev μ-loop : tie.MeasureT-loop
 μ-loop marks₀ k₀ marks k = length marks₀ - k
 
--- src/main.rt:148:5
 loop-holds : tie.Need-loop-holds Inv-loop μ-loop
 loop-holds c = refl
 
--- src/main.rt:149:9
 put-mark-requires : tie.Need-put-mark-requires Inv-loop μ-loop
 put-mark-requires c κs = tt
 
--- src/main.rt:150:9
 add-k : tie.Need-add-k Inv-loop μ-loop
 add-k c = omega arith
 
--- src/main.rt:148:5
 loop-less : tie.Need-loop-less Inv-loop μ-loop
 loop-less c = omega arith
 
--- src/main.rt:148:5
 loop-again : tie.Need-loop-again Inv-loop μ-loop
 loop-again c = c .before .before .put-mark .kept .0 ∙ c .before .before .before .before .before .loop .inv
 
--- src/main.rt:146:1
 same-length : tie.Need-same-length Inv-loop μ-loop
 same-length c = c .before .loop .inv
 
--- src/main.rt:146:1
 returns : tie.Need-returns Inv-loop μ-loop
 returns c = tt
 

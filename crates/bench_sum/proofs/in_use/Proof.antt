@@ -15,91 +15,75 @@ use Rattle.bench_sum.proofs.in_use.Lts as lts
 use Rattle.bench_sum.proofs.weighed.Reads as weighed-reads
 use Rattle.table.proofs.table_ok.Reads as table-ok-reads
 
--- src/main.rt:315:9
 table-ok-requires : tie.Need-table-ok-requires
 table-ok-requires c κs = search needs
 
--- src/main.rt:316:9
 same-length : tie.Need-same-length
 same-length c = search needs
 
--- src/main.rt:316:9
 same-length-2 : tie.Need-same-length-2
 same-length-2 c = search needs
 
--- src/main.rt:316:9
 returns : tie.Need-returns
 returns c = search needs
 
--- src/main.rt:319:9
 same-length-3 : tie.Need-same-length-3
 same-length-3 c = search needs
 
--- src/main.rt:319:9
 same-length-4 : tie.Need-same-length-4
 same-length-4 c = search needs
 
--- src/main.rt:319:9
 returns-2 : tie.Need-returns-2
 returns-2 c = search needs
 
--- src/main.rt:321:17
 mul-words : tie.Need-mul-words
 mul-words c = let s = c .before .before .before .before .before .before .before .before .before in
     let t = sym (c .before .before .before .table-ok .ensures) ∙ not-false _ (c .before .before .if1 .left) in
     let f = table-facts _ _ _ _ _ _ _ _ t in
     record { fits = omega (arith, f .counters .node-limit) }
 
--- src/main.rt:325:9
 slice-aggregate-weighed : tie.Need-slice-aggregate-weighed
 slice-aggregate-weighed c = let s = c .before .before .before .before .before .before .before .before .before .before in
     let t = sym (c .before .before .before .before .table-ok .ensures) ∙ not-false _ (c .before .before .before .if1 .left) in
     let f = table-facts _ _ _ _ _ _ _ _ t in
     sym (used-length _ _ (words-fit (f .counters)))
 
--- src/main.rt:326:9
 slice-aggregate-weighed-2 : tie.Need-slice-aggregate-weighed-2
 slice-aggregate-weighed-2 c = let s = c .before .before .before .before .before .before .before .before .before .before .before in
     let t = sym (c .before .before .before .before .before .table-ok .ensures) ∙ not-false _ (c .before .before .before .before .if1 .left) in
     let f = table-facts _ _ _ _ _ _ _ _ t in
     sym (used-length _ _ (f .input-row))
 
--- src/main.rt:327:9
 slice-aggregate-weighed-3 : tie.Need-slice-aggregate-weighed-3
 slice-aggregate-weighed-3 c = let s = c .before .before .before .before .before .before .before .before .before .before .before .before in
     let t = sym (c .before .before .before .before .before .before .table-ok .ensures) ∙ not-false _ (c .before .before .before .before .before .if1 .left) in
     let f = table-facts _ _ _ _ _ _ _ _ t in
     sym (used-length _ _ (f .counters .cell-row))
 
--- src/main.rt:328:9
 slice-relend-prefix-weighed : tie.Need-slice-relend-prefix-weighed
 slice-relend-prefix-weighed c = let s = c .before .before .before .before .before .before .before .before .before .before .before .before in
     let t = sym (c .before .before .before .before .before .before .table-ok .ensures) ∙ not-false _ (c .before .before .before .before .before .if1 .left) in
     let f = table-facts _ _ _ _ _ _ _ _ t in
     f .lit-row
 
--- src/main.rt:328:9
 slice-aggregate-weighed-4 : tie.Need-slice-aggregate-weighed-4
 slice-aggregate-weighed-4 c = let s = c .before .before .before .before .before .before .before .before .before .before .before .before .before in
     let t = sym (c .before .before .before .before .before .before .before .table-ok .ensures) ∙ not-false _ (c .before .before .before .before .before .before .if1 .left) in
     let f = table-facts _ _ _ _ _ _ _ _ t in
     sym (used-length _ _ (f .lit-row))
 
--- src/main.rt:329:9
 slice-relend-prefix-weighed-2 : tie.Need-slice-relend-prefix-weighed-2
 slice-relend-prefix-weighed-2 c = let s = c .before .before .before .before .before .before .before .before .before .before .before .before .before in
     let t = sym (c .before .before .before .before .before .before .before .table-ok .ensures) ∙ not-false _ (c .before .before .before .before .before .before .if1 .left) in
     let f = table-facts _ _ _ _ _ _ _ _ t in
     f .mark-row
 
--- src/main.rt:329:9
 slice-aggregate-weighed-5 : tie.Need-slice-aggregate-weighed-5
 slice-aggregate-weighed-5 c = let s = c .before .before .before .before .before .before .before .before .before .before .before .before .before .before in
     let t = sym (c .before .before .before .before .before .before .before .before .table-ok .ensures) ∙ not-false _ (c .before .before .before .before .before .before .before .if1 .left) in
     let f = table-facts _ _ _ _ _ _ _ _ t in
     sym (used-length _ _ (f .mark-row))
 
--- src/main.rt:324:5
 weighed-requires : tie.Need-weighed-requires
 weighed-requires c κs = let s = c .before .before .before .before .before .before .before .before .before .before .before .before .before .before .before in
     let t = sym (c .before .before .before .before .before .before .before .before .before .table-ok .ensures) ∙ not-false _ (c .before .before .before .before .before .before .before .before .if1 .left) in
@@ -108,19 +92,15 @@ weighed-requires c κs = let s = c .before .before .before .before .before .befo
     let r = ready-of (s .args .nodes .now) f small in
     (moved _ _ _ _ (runOf (s .args .c)) (s .args .from) (omega (arith, small, c .before .before .before .before .before .before .before .if2 .left)) (r .fit), r .generals)
 
--- src/main.rt:301:1
 same-length-5 : tie.Need-same-length-5
 same-length-5 c = search needs
 
--- src/main.rt:301:1
 same-length-6 : tie.Need-same-length-6
 same-length-6 c = search needs
 
--- src/main.rt:301:1
 same-length-7 : tie.Need-same-length-7
 same-length-7 c = search needs
 
--- src/main.rt:301:1
 returns-3 : tie.Need-returns-3
 returns-3 c = search needs
 

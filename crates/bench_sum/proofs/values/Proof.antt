@@ -15,35 +15,27 @@ Inv-loop nodes inputs keys lits₀ marks₀ clauses₀ ints₀ bytes₀ from to 
 abbrev μ-loop : tie.MeasureT-loop
 μ-loop nodes inputs keys lits₀ marks₀ clauses₀ ints₀ bytes₀ from to what n now₀ which₀ lits marks clauses ints bytes now which = to - which
 
--- src/main.rt:669:5
 loop-holds : tie.Need-loop-holds Inv-loop μ-loop
 loop-holds c = omega arith
 
--- src/main.rt:670:13
 node-of-requires : tie.Need-node-of-requires Inv-loop μ-loop
 node-of-requires c κs = search needs
 
--- src/main.rt:671:13
 value-of-requires : tie.Need-value-of-requires Inv-loop μ-loop
 value-of-requires c κs = search needs
 
--- src/main.rt:672:9
 value-requires : tie.Need-value-requires Inv-loop μ-loop
 value-requires c κs = search needs
 
--- src/main.rt:687:9
 add-which : tie.Need-add-which Inv-loop μ-loop
 add-which c = omega arith
 
--- src/main.rt:669:5
 loop-less : tie.Need-loop-less Inv-loop μ-loop
 loop-less c = omega arith
 
--- src/main.rt:669:5
 loop-again : tie.Need-loop-again Inv-loop μ-loop
 loop-again c = omega arith
 
--- src/main.rt:652:1
 returns : tie.Need-returns Inv-loop μ-loop
 returns c = search needs
 

@@ -14,31 +14,24 @@ use Rattle.rows.proofs.con_len.Reads as con-len-reads
 use Rattle.rows.proofs.node_at.Reads as node-at-reads
 use Rattle.sum.proofs.weigh.Reads as weigh-reads
 
--- src/main.rt:245:9
 returns : tie.Need-returns
 returns c = search needs
 
--- src/main.rt:248:9
 returns-2 : tie.Need-returns-2
 returns-2 c = search needs
 
--- src/main.rt:251:9
 returns-3 : tie.Need-returns-3
 returns-3 c = search needs
 
--- src/main.rt:253:16
 node-at-requires : tie.Need-node-at-requires
 node-at-requires c κs = search needs
 
--- src/main.rt:253:8
 con-len-requires : tie.Need-con-len-requires
 con-len-requires c κs = search needs
 
--- src/main.rt:254:9
 returns-4 : tie.Need-returns-4
 returns-4 c = search needs
 
--- src/main.rt:256:5
 weigh-requires : tie.Need-weigh-requires
 weigh-requires c κs = let s = c .before .before .before .before .before .before .before .before .before .before .before .before .before in
     let o : s .args .y ≤ outs (s .args .nodes .now) (s .args .id) = omega (arith, c .before .before .before .if4 .left, c .before .before .before .before .con-len .ensures, ap conLen (c .before .before .before .before .before .node-at .ensures)) in (
@@ -52,19 +45,15 @@ weigh-requires c κs = let s = c .before .before .before .before .before .before
       ),
     )
 
--- src/main.rt:229:1
 same-length : tie.Need-same-length
 same-length c = search needs
 
--- src/main.rt:229:1
 same-length-2 : tie.Need-same-length-2
 same-length-2 c = search needs
 
--- src/main.rt:229:1
 same-length-3 : tie.Need-same-length-3
 same-length-3 c = search needs
 
--- src/main.rt:229:1
 returns-5 : tie.Need-returns-5
 returns-5 c = search needs
 

@@ -18,50 +18,39 @@ Inv-loop nodes inputs keys lits₀ marks₀ row₀ id y at n from next₀ words�
 abbrev μ-loop : tie.MeasureT-loop
 μ-loop nodes inputs keys lits₀ marks₀ row₀ id y at n from next₀ words₀ i₀ lits marks row next words i = n - i
 
--- src/main.rt:280:5
 loop-holds : tie.Need-loop-holds Inv-loop μ-loop
 loop-holds c = (c .before .before .before .pre .0, refl, refl, refl)
 
--- src/main.rt:281:9
 unmark-requires : tie.Need-unmark-requires Inv-loop μ-loop
 unmark-requires c κs = tt
 
--- src/main.rt:282:13
 weigh-one-requires : tie.Need-weigh-one-requires Inv-loop μ-loop
 weigh-one-requires c κs = (remarked _ _ _ _ _ _ (c .before .before .before .before .before .unmark .kept .0) (c .before .before .before .before .before .before .before .before .loop .inv .0), c .before .before .before .before .before .before .before .before .before .before .before .before .pre .1)
 
--- src/main.rt:294:9
 less-requires : tie.Need-less-requires Inv-loop μ-loop
 less-requires c κs = tt
 
--- src/main.rt:295:9
 add-i : tie.Need-add-i Inv-loop μ-loop
 add-i c = omega arith
 
--- src/main.rt:280:5
 loop-less : tie.Need-loop-less Inv-loop μ-loop
 loop-less c = omega arith
 
--- src/main.rt:280:5
 loop-again : tie.Need-loop-again Inv-loop μ-loop
 loop-again c = let d = c .before .before .before .before .before .weigh-one in
     let l = c .before .before .before .before .before .before .before .before .before .before .before .before .before .before .loop in
     let m = c .before .before .before .before .before .before .before .before .before .before .before .unmark in
     (moved _ _ _ _ _ _ (l .inv .0 .counted) (d .ensures), d .kept .1 .1 .1 .0 ∙ l .inv .1, d .kept .1 .1 .1 .1 .0 ∙ m .kept .0 ∙ l .inv .2, d .kept .1 .1 .1 .1 .1 .0 ∙ l .inv .3)
 
--- src/main.rt:260:1
 same-length : tie.Need-same-length Inv-loop μ-loop
 same-length c = c .before .loop .inv .1
 
--- src/main.rt:260:1
 same-length-2 : tie.Need-same-length-2 Inv-loop μ-loop
 same-length-2 c = c .before .loop .inv .2
 
--- src/main.rt:260:1
 same-length-3 : tie.Need-same-length-3 Inv-loop μ-loop
 same-length-3 c = c .before .loop .inv .3
 
--- src/main.rt:260:1
 returns : tie.Need-returns Inv-loop μ-loop
 returns c = tt
 

@@ -56,7 +56,6 @@ recurse-unweighted-at t = and 5 recurse-unweighted-kinds.ps (is 5 recurse-unweig
 abbrev recurse-unweighted-below : ℕ → In 5 recurse-unweighted-kinds.ps
 recurse-unweighted-below t = and 5 recurse-unweighted-kinds.ps (falls 5 recurse-unweighted-kinds.ps _<_ μ-recurse-unweighted t) recurse-unweighted.Pre
 
--- src/lib.rt:76:9
 define-unweighted-rec-precond-unweighted-requires : (t : ℕ) → define-unweighted-rec-lts.Need-precond-unweighted-requires (
   precond-unweighted-reads.Asked,
   precond-unweighted-reads.Learnt,
@@ -71,7 +70,6 @@ define-unweighted-rec-precond-unweighted-requires t c κs =
     let s = c .before .before .before in
     (s .pre .1 .1 .0, (length (s .args .inputs .now), subst (λ (n : ℕ). Ok (s .args .nodes .now) (length (s .args .inputs .now)) n) (sym (s .pre .1 .0 .same)) (s .pre .1 .0 .ok)))
 
--- src/lib.rt:78:28
 define-unweighted-rec-enum-told : (t : ℕ) → define-unweighted-rec-lts.Need-enum-told (
   precond-unweighted-reads.Asked,
   precond-unweighted-reads.Learnt,
@@ -84,7 +82,6 @@ define-unweighted-rec-enum-told : (t : ℕ) → define-unweighted-rec-lts.Need-e
 ) (define-unweighted-rec-at t) define-unweighted-rec.Post
 define-unweighted-rec-enum-told t c = search needs
 
--- src/lib.rt:79:23
 define-unweighted-rec-enum-known-p : (t : ℕ) → define-unweighted-rec-lts.Need-enum-known-p (
   precond-unweighted-reads.Asked,
   precond-unweighted-reads.Learnt,
@@ -97,7 +94,6 @@ define-unweighted-rec-enum-known-p : (t : ℕ) → define-unweighted-rec-lts.Nee
 ) (define-unweighted-rec-at t) define-unweighted-rec.Post
 define-unweighted-rec-enum-known-p t c = search needs
 
--- src/lib.rt:81:17
 define-unweighted-rec-define-unweighted-rec-requires : (t : ℕ) → define-unweighted-rec-lts.Need-define-unweighted-rec-requires (
   precond-unweighted-reads.Asked,
   precond-unweighted-reads.Learnt,
@@ -123,7 +119,6 @@ define-unweighted-rec-define-unweighted-rec-requires t c κs =
       ),
     )
 
--- src/lib.rt:82:13
 define-unweighted-rec-encode-unweighted-requires : (t : ℕ) → define-unweighted-rec-lts.Need-encode-unweighted-requires (
   precond-unweighted-reads.Asked,
   precond-unweighted-reads.Learnt,
@@ -142,7 +137,6 @@ define-unweighted-rec-encode-unweighted-requires t c κs =
     let d = c .before .before .before .before .before .before .before .define-unweighted-rec .ensures in
     (d .fit, (k .cell, next-by (pass-is (s .args .nodes .now) (s .args .inputs .now) (s .args .id) (s .args .i) (s .args .want) (state (s .args .lits .now) (s .args .marks .now) (s .args .row .now) (s .args .run)) _ _ _ _ e (z .fuel) (z .enough) (d .is (z .fuel - 1) (omega (arith, k .falls, z .enough))) refl) (z .within)))
 
--- src/lib.rt:84:27
 define-unweighted-rec-enum-known-p-2 : (t : ℕ) → define-unweighted-rec-lts.Need-enum-known-p-2 (
   precond-unweighted-reads.Asked,
   precond-unweighted-reads.Learnt,
@@ -155,7 +149,6 @@ define-unweighted-rec-enum-known-p-2 : (t : ℕ) → define-unweighted-rec-lts.N
 ) (define-unweighted-rec-at t) define-unweighted-rec.Post
 define-unweighted-rec-enum-known-p-2 t c = search needs
 
--- src/lib.rt:85:17
 define-unweighted-rec-recurse-unweighted-requires : (t : ℕ) → define-unweighted-rec-lts.Need-recurse-unweighted-requires (
   precond-unweighted-reads.Asked,
   precond-unweighted-reads.Learnt,
@@ -181,7 +174,6 @@ define-unweighted-rec-recurse-unweighted-requires t c κs =
       ),
     )
 
--- src/lib.rt:86:13
 define-unweighted-rec-encode-unweighted-requires-2 : (t : ℕ) → define-unweighted-rec-lts.Need-encode-unweighted-requires-2 (
   precond-unweighted-reads.Asked,
   precond-unweighted-reads.Learnt,
@@ -200,7 +192,6 @@ define-unweighted-rec-encode-unweighted-requires-2 t c κs =
     let d = c .before .before .before .before .before .before .before .recurse-unweighted .ensures in
     (d .fit, (k .0, next-by (continue-is (s .args .nodes .now) (s .args .inputs .now) (s .args .id) (s .args .i) (s .args .want) (state (s .args .lits .now) (s .args .marks .now) (s .args .row .now) (s .args .run)) _ _ _ _ e (z .fuel) (z .enough) (d .is (z .fuel - 1) (omega (arith, z .enough))) refl) (z .within)))
 
--- src/lib.rt:69:1
 define-unweighted-rec-same-length : (t : ℕ) → define-unweighted-rec-lts.Need-same-length (
   precond-unweighted-reads.Asked,
   precond-unweighted-reads.Learnt,
@@ -213,7 +204,6 @@ define-unweighted-rec-same-length : (t : ℕ) → define-unweighted-rec-lts.Need
 ) (define-unweighted-rec-at t) define-unweighted-rec.Post
 define-unweighted-rec-same-length t c = search needs
 
--- src/lib.rt:69:1
 define-unweighted-rec-returns : (t : ℕ) → define-unweighted-rec-lts.Need-returns (
   precond-unweighted-reads.Asked,
   precond-unweighted-reads.Learnt,
@@ -229,7 +219,6 @@ define-unweighted-rec-returns t c =
     let e = sym (c .before .before .precond-unweighted .ensures) ∙ c .enum-told .given .1 in
     record { is = return-is (s .args .nodes .now) (s .args .inputs .now) (s .args .id) (s .args .i) (s .args .want) (state (s .args .lits .now) (s .args .marks .now) (s .args .row .now) (s .args .run)) e; fit = s .pre .1 .0 }
 
--- src/lib.rt:69:1
 define-unweighted-rec-same-length-2 : (t : ℕ) → define-unweighted-rec-lts.Need-same-length-2 (
   precond-unweighted-reads.Asked,
   precond-unweighted-reads.Learnt,
@@ -242,7 +231,6 @@ define-unweighted-rec-same-length-2 : (t : ℕ) → define-unweighted-rec-lts.Ne
 ) (define-unweighted-rec-at t) define-unweighted-rec.Post
 define-unweighted-rec-same-length-2 t c = c .before .before .before .before .encode-unweighted .kept .1 .1 .0 ∙ c .before .before .before .before .before .before .before .before .before .before .before .before .define-unweighted-rec .kept .1 .1 .0
 
--- src/lib.rt:69:1
 define-unweighted-rec-same-length-3 : (t : ℕ) → define-unweighted-rec-lts.Need-same-length-3 (
   precond-unweighted-reads.Asked,
   precond-unweighted-reads.Learnt,
@@ -255,7 +243,6 @@ define-unweighted-rec-same-length-3 : (t : ℕ) → define-unweighted-rec-lts.Ne
 ) (define-unweighted-rec-at t) define-unweighted-rec.Post
 define-unweighted-rec-same-length-3 t c = c .before .before .before .before .encode-unweighted .kept .1 .1 .1 .0 ∙ c .before .before .before .before .before .before .before .before .before .before .before .before .define-unweighted-rec .kept .1 .1 .1 .0
 
--- src/lib.rt:69:1
 define-unweighted-rec-same-length-4 : (t : ℕ) → define-unweighted-rec-lts.Need-same-length-4 (
   precond-unweighted-reads.Asked,
   precond-unweighted-reads.Learnt,
@@ -268,7 +255,6 @@ define-unweighted-rec-same-length-4 : (t : ℕ) → define-unweighted-rec-lts.Ne
 ) (define-unweighted-rec-at t) define-unweighted-rec.Post
 define-unweighted-rec-same-length-4 t c = c .before .before .before .before .encode-unweighted .kept .1 .1 .1 .1 .0 ∙ c .before .before .before .before .before .before .before .before .before .before .before .before .define-unweighted-rec .kept .1 .1 .1 .1 .0
 
--- src/lib.rt:69:1
 define-unweighted-rec-returns-2 : (t : ℕ) → define-unweighted-rec-lts.Need-returns-2 (
   precond-unweighted-reads.Asked,
   precond-unweighted-reads.Learnt,
@@ -291,7 +277,6 @@ define-unweighted-rec-returns-2 t c =
       fit = g .fit;
     }
 
--- src/lib.rt:69:1
 define-unweighted-rec-same-length-5 : (t : ℕ) → define-unweighted-rec-lts.Need-same-length-5 (
   precond-unweighted-reads.Asked,
   precond-unweighted-reads.Learnt,
@@ -304,7 +289,6 @@ define-unweighted-rec-same-length-5 : (t : ℕ) → define-unweighted-rec-lts.Ne
 ) (define-unweighted-rec-at t) define-unweighted-rec.Post
 define-unweighted-rec-same-length-5 t c = c .before .before .before .before .encode-unweighted2 .kept .1 .1 .0 ∙ c .before .before .before .before .before .before .before .before .before .before .before .before .recurse-unweighted .kept .1 .1 .0
 
--- src/lib.rt:69:1
 define-unweighted-rec-same-length-6 : (t : ℕ) → define-unweighted-rec-lts.Need-same-length-6 (
   precond-unweighted-reads.Asked,
   precond-unweighted-reads.Learnt,
@@ -317,7 +301,6 @@ define-unweighted-rec-same-length-6 : (t : ℕ) → define-unweighted-rec-lts.Ne
 ) (define-unweighted-rec-at t) define-unweighted-rec.Post
 define-unweighted-rec-same-length-6 t c = c .before .before .before .before .encode-unweighted2 .kept .1 .1 .1 .0 ∙ c .before .before .before .before .before .before .before .before .before .before .before .before .recurse-unweighted .kept .1 .1 .1 .0
 
--- src/lib.rt:69:1
 define-unweighted-rec-same-length-7 : (t : ℕ) → define-unweighted-rec-lts.Need-same-length-7 (
   precond-unweighted-reads.Asked,
   precond-unweighted-reads.Learnt,
@@ -330,7 +313,6 @@ define-unweighted-rec-same-length-7 : (t : ℕ) → define-unweighted-rec-lts.Ne
 ) (define-unweighted-rec-at t) define-unweighted-rec.Post
 define-unweighted-rec-same-length-7 t c = c .before .before .before .before .encode-unweighted2 .kept .1 .1 .1 .1 .0 ∙ c .before .before .before .before .before .before .before .before .before .before .before .before .recurse-unweighted .kept .1 .1 .1 .1 .0
 
--- src/lib.rt:69:1
 define-unweighted-rec-returns-3 : (t : ℕ) → define-unweighted-rec-lts.Need-returns-3 (
   precond-unweighted-reads.Asked,
   precond-unweighted-reads.Learnt,
@@ -364,7 +346,6 @@ recurse-span-Inv-loop nodes inputs lits₀ marks₀ row₀ child want k₀ end r
 abbrev recurse-span-μ-loop : recurse-span-lts.MeasureT-loop
 recurse-span-μ-loop nodes inputs lits₀ marks₀ row₀ child want k₀ end r₀ lits marks row k r = end - k
 
--- src/lib.rt:120:5
 recurse-span-loop-holds :
     (t : ℕ) →
     recurse-span-lts.Need-loop-holds
@@ -375,7 +356,6 @@ recurse-span-loop-holds :
     recurse-span-μ-loop
 recurse-span-loop-holds t c = (c .before .before .pre .1 .0, refl, refl, refl, λ f h. refl)
 
--- src/lib.rt:121:9
 recurse-span-define-unweighted-rec-requires :
     (t : ℕ) →
     recurse-span-lts.Need-define-unweighted-rec-requires
@@ -405,7 +385,6 @@ recurse-span-define-unweighted-rec-requires t c κs =
       ),
     )
 
--- src/lib.rt:122:9
 recurse-span-add-k :
     (t : ℕ) →
     recurse-span-lts.Need-add-k
@@ -416,7 +395,6 @@ recurse-span-add-k :
     recurse-span-μ-loop
 recurse-span-add-k t c = omega arith
 
--- src/lib.rt:120:5
 recurse-span-loop-less :
     (t : ℕ) →
     recurse-span-lts.Need-loop-less
@@ -427,7 +405,6 @@ recurse-span-loop-less :
     recurse-span-μ-loop
 recurse-span-loop-less t c = omega (arith, c .before .before .before .before .before .before .before .before .loop-test .taken)
 
--- src/lib.rt:120:5
 recurse-span-loop-again :
     (t : ℕ) →
     recurse-span-lts.Need-loop-again
@@ -447,7 +424,6 @@ recurse-span-loop-again t c =
       λ f h. span-turn (l .k) (s .args .span .to) (each f (s .args .nodes .now) (s .args .inputs .now) (s .args .child) (s .args .want)) (state (l .lits) (l .marks) (l .row) (l .r)) _ _ (c .before .before .before .before .before .before .before .before .loop-test .taken) (d .ensures .is f h) (l .inv .4 f h),
     )
 
--- src/lib.rt:110:1
 recurse-span-same-length :
     (t : ℕ) →
     recurse-span-lts.Need-same-length
@@ -458,7 +434,6 @@ recurse-span-same-length :
     recurse-span-μ-loop
 recurse-span-same-length t c = c .before .loop .inv .1
 
--- src/lib.rt:110:1
 recurse-span-same-length-2 :
     (t : ℕ) →
     recurse-span-lts.Need-same-length-2
@@ -469,7 +444,6 @@ recurse-span-same-length-2 :
     recurse-span-μ-loop
 recurse-span-same-length-2 t c = c .before .loop .inv .2
 
--- src/lib.rt:110:1
 recurse-span-same-length-3 :
     (t : ℕ) →
     recurse-span-lts.Need-same-length-3
@@ -480,7 +454,6 @@ recurse-span-same-length-3 :
     recurse-span-μ-loop
 recurse-span-same-length-3 t c = c .before .loop .inv .3
 
--- src/lib.rt:110:1
 recurse-span-returns :
     (t : ℕ) →
     recurse-span-lts.Need-returns
@@ -498,7 +471,6 @@ recurse-span-returns t c =
       fit = l .inv .0;
     }
 
--- src/lib.rt:104:9
 recurse-unweighted-recurse-span-requires :
     (t : ℕ) → recurse-unweighted-lts.Need-recurse-span-requires (recurse-span-below t, recurse-span.Post) (recurse-unweighted-at t) recurse-unweighted.Post
 recurse-unweighted-recurse-span-requires t c κs =
@@ -515,7 +487,6 @@ recurse-unweighted-recurse-span-requires t c κs =
       ),
     )
 
--- src/lib.rt:105:9
 recurse-unweighted-recurse-span-requires-2 : (t : ℕ) → recurse-unweighted-lts.Need-recurse-span-requires-2 (
   recurse-span-below t,
   recurse-span.Post,
@@ -534,7 +505,6 @@ recurse-unweighted-recurse-span-requires-2 t c κs =
       ),
     )
 
--- src/lib.rt:106:9
 recurse-unweighted-recurse-span-requires-3 : (t : ℕ) → recurse-unweighted-lts.Need-recurse-span-requires-3 (
   recurse-span-below t,
   recurse-span.Post,
@@ -553,7 +523,6 @@ recurse-unweighted-recurse-span-requires-3 t c κs =
       ),
     )
 
--- src/lib.rt:107:5
 recurse-unweighted-recurse-span-requires-4 : (t : ℕ) → recurse-unweighted-lts.Need-recurse-span-requires-4 (
   recurse-span-below t,
   recurse-span.Post,
@@ -572,22 +541,18 @@ recurse-unweighted-recurse-span-requires-4 t c κs =
       ),
     )
 
--- src/lib.rt:91:1
 recurse-unweighted-same-length :
     (t : ℕ) → recurse-unweighted-lts.Need-same-length (recurse-span-below t, recurse-span.Post) (recurse-unweighted-at t) recurse-unweighted.Post
 recurse-unweighted-same-length t c = c .before .before .before .before .recurse-span4 .kept .1 .1 .0 ∙ c .before .before .before .before .before .before .before .before .before .before .before .before .recurse-span3 .kept .1 .1 .0 ∙ c .before .before .before .before .before .before .before .before .before .before .before .before .before .before .before .before .before .before .before .before .recurse-span2 .kept .1 .1 .0 ∙ c .before .before .before .before .before .before .before .before .before .before .before .before .before .before .before .before .before .before .before .before .before .before .before .before .before .before .before .before .recurse-span .kept .1 .1 .0
 
--- src/lib.rt:91:1
 recurse-unweighted-same-length-2 :
     (t : ℕ) → recurse-unweighted-lts.Need-same-length-2 (recurse-span-below t, recurse-span.Post) (recurse-unweighted-at t) recurse-unweighted.Post
 recurse-unweighted-same-length-2 t c = c .before .before .before .before .recurse-span4 .kept .1 .1 .1 .0 ∙ c .before .before .before .before .before .before .before .before .before .before .before .before .recurse-span3 .kept .1 .1 .1 .0 ∙ c .before .before .before .before .before .before .before .before .before .before .before .before .before .before .before .before .before .before .before .before .recurse-span2 .kept .1 .1 .1 .0 ∙ c .before .before .before .before .before .before .before .before .before .before .before .before .before .before .before .before .before .before .before .before .before .before .before .before .before .before .before .before .recurse-span .kept .1 .1 .1 .0
 
--- src/lib.rt:91:1
 recurse-unweighted-same-length-3 :
     (t : ℕ) → recurse-unweighted-lts.Need-same-length-3 (recurse-span-below t, recurse-span.Post) (recurse-unweighted-at t) recurse-unweighted.Post
 recurse-unweighted-same-length-3 t c = c .before .before .before .before .recurse-span4 .kept .1 .1 .1 .1 .0 ∙ c .before .before .before .before .before .before .before .before .before .before .before .before .recurse-span3 .kept .1 .1 .1 .1 .0 ∙ c .before .before .before .before .before .before .before .before .before .before .before .before .before .before .before .before .before .before .before .before .recurse-span2 .kept .1 .1 .1 .1 .0 ∙ c .before .before .before .before .before .before .before .before .before .before .before .before .before .before .before .before .before .before .before .before .before .before .before .before .before .before .before .before .recurse-span .kept .1 .1 .1 .1 .0
 
--- src/lib.rt:91:1
 recurse-unweighted-returns :
     (t : ℕ) → recurse-unweighted-lts.Need-returns (recurse-span-below t, recurse-span.Post) (recurse-unweighted-at t) recurse-unweighted.Post
 recurse-unweighted-returns t c =

@@ -9,37 +9,30 @@ use borrow.Author.Needs.{needs}
 use Rattle.count.proofs.con_lits.Statement.{statement}
 use Rattle.count.proofs.con_lits.Tie as tie
 
--- src/lib.rt:111:9
 node-at-requires : tie.Need-node-at-requires
 node-at-requires c κs = search needs
 
--- src/lib.rt:114:27
 add-result : tie.Need-add-result
 add-result c =
     let s = c .before .before .before .before in
     omega (arith, leaf-in _ _ _ _ _ (c .before .before .node-at .ensures) (s .pre .1) (s .pre .0) (c .if1 .taken), s .good)
 
--- src/lib.rt:114:16
 mul-result : tie.Need-mul-result
 mul-result c =
     let s = c .before .before .before .before in
     omega (arith, leaf-in _ _ _ _ _ (c .before .before .node-at .ensures) (s .pre .1) (s .pre .0) (c .if1 .taken), s .good)
 
--- src/lib.rt:114:16
 sub-result : tie.Need-sub-result
 sub-result c = search needs
 
--- src/lib.rt:114:16
 part-result-start : tie.Need-part-result-start
 part-result-start c = search needs
 
--- src/lib.rt:114:16
 part-result-end : tie.Need-part-result-end
 part-result-end c =
     let s = c .before .before .before .before in
     omega (arith, leaf-in _ _ _ _ _ (c .before .before .node-at .ensures) (s .pre .1) (s .pre .0) (c .if1 .taken))
 
--- src/lib.rt:114:9
 returns : tie.Need-returns
 unfolding conLits
 returns c =
@@ -49,37 +42,30 @@ returns c =
     let k = eq-eqb _ 0 (sym (ap (λ (m : Node). m .kind) (n .ensures)) ∙ c .before .if1 .taken) in
     rw (h, k, ap (λ (m : Node). m .first) (n .ensures))
 
--- src/lib.rt:116:17
 con-len-requires : tie.Need-con-len-requires
 con-len-requires c κs = search needs
 
--- src/lib.rt:116:13
 add-e : tie.Need-add-e
 add-e c =
     let s = c .before .before .before .before .before in
     omega (arith, c .con-len .ensures, cells-in _ _ _ _ _ (c .before .before .before .node-at .ensures) (s .pre .1) (s .pre .0) (c .before .if1 .left), s .good)
 
--- src/lib.rt:117:5
 mul-result-2 : tie.Need-mul-result-2
 mul-result-2 c =
     let s = c .before .before .before .before .before in
     omega (arith, c .con-len .ensures, cells-in _ _ _ _ _ (c .before .before .before .node-at .ensures) (s .pre .1) (s .pre .0) (c .before .if1 .left), s .good)
 
--- src/lib.rt:117:5
 sub-result-2 : tie.Need-sub-result-2
 sub-result-2 c = search needs
 
--- src/lib.rt:117:5
 part-result-start-2 : tie.Need-part-result-start-2
 part-result-start-2 c = search needs
 
--- src/lib.rt:117:5
 part-result-end-2 : tie.Need-part-result-end-2
 part-result-end-2 c =
     let s = c .before .before .before .before .before in
     omega (arith, c .con-len .ensures, cells-in _ _ _ _ _ (c .before .before .before .node-at .ensures) (s .pre .1) (s .pre .0) (c .before .if1 .left))
 
--- src/lib.rt:107:1
 returns-2 : tie.Need-returns-2
 unfolding conLits
 returns-2 c =

@@ -9,36 +9,29 @@ use borrow.Author.Needs.{needs}
 use Rattle.count.proofs.encode_unweighted.Statement.{statement}
 use Rattle.count.proofs.encode_unweighted.Tie as tie
 
--- src/lib.rt:59:9
 node-at-requires : tie.Need-node-at-requires
 node-at-requires c κs = search needs
 
--- src/lib.rt:60:14
 add-at : tie.Need-add-at
 add-at c = omega (arith, cell-in _ _ _ _ _ _ (c .before .node-at .ensures) (c .before .before .before .before .pre .0 .ok) (c .before .before .before .before .pre .1 .0), c .before .before .before .before .good)
 
--- src/lib.rt:61:9
 take-lit-requires : tie.Need-take-lit-requires
 take-lit-requires c κs =
     let s = c .before .before .before .before .before in
     let n = c .before .before .node-at in
     (cell-in _ _ _ _ _ _ (n .ensures) (s .pre .0 .ok) (s .pre .1 .0), finish-next (s .args .nodes .now) (s .args .inputs .now) (s .args .id) (s .args .i) (s .args .todo) (s .args .lits .now) (s .args .marks .now) (s .args .row .now) (s .args .run) (n .result) (n .ensures) (s .pre .1 .1))
 
--- src/lib.rt:62:5
 slice-write-marks : tie.Need-slice-write-marks
 slice-write-marks c = omega (arith, cell-in _ _ _ _ _ _ (c .before .before .before .before .node-at .ensures) (c .before .before .before .before .before .before .before .pre .0 .ok) (c .before .before .before .before .before .before .before .pre .1 .0), c .before .before .before .before .before .before .before .pre .0 .same)
 
--- src/lib.rt:63:13
 mul-o : tie.Need-mul-o
 mul-o c = omega (arith, cell-in _ _ _ _ _ _ (c .before .before .before .before .node-at .ensures) (c .before .before .before .before .before .before .before .pre .0 .ok) (c .before .before .before .before .before .before .before .pre .1 .0), c .before .before .before .before .before .before .before .good)
 
--- src/lib.rt:63:13
 slice-copy-out-o : tie.Need-slice-copy-out-o
 slice-copy-out-o c =
     let e : length (c .before .take-lit .last .0) ≡ length (c .before .before .before .before .before .before .before .args .lits .now) = c .before .take-lit .kept .0 in
     omega (arith, cell-in _ _ _ _ _ _ (c .before .before .before .before .node-at .ensures) (c .before .before .before .before .before .before .before .pre .0 .ok) (c .before .before .before .before .before .before .before .pre .1 .0))
 
--- src/lib.rt:65:9
 own-clauses-requires : tie.Need-own-clauses-requires
 own-clauses-requires c κs =
     let s = c .before .before .before .before .before .before .before .before .before .before .before in
@@ -56,19 +49,15 @@ own-clauses-requires c κs =
       ),
     )
 
--- src/lib.rt:52:1
 same-length : tie.Need-same-length
 same-length c = search needs
 
--- src/lib.rt:52:1
 same-length-2 : tie.Need-same-length-2
 same-length-2 c = search needs
 
--- src/lib.rt:52:1
 same-length-3 : tie.Need-same-length-3
 same-length-3 c = search needs
 
--- src/lib.rt:52:1
 returns : tie.Need-returns
 returns c =
     let s = c .before .before .before .before .before .before .before .before .before .before .before .before .before in

@@ -3,38 +3,30 @@ use borrow.Author.Needs.{needs}
 use Rattle.count_plan.proofs.has_if.Statement.{statement}
 use Rattle.count_plan.proofs.has_if.Tie as tie
 
--- src/lib.rt:62:27
 enum-told : tie.Need-enum-told
 enum-told c = search needs
 
--- src/lib.rt:63:27
 enum-told-2 : tie.Need-enum-told-2
 enum-told-2 c = search needs
 
--- src/lib.rt:64:31
 enum-told-3 : tie.Need-enum-told-3
 enum-told-3 c = search needs
 
--- src/lib.rt:65:29
 enum-told-4 : tie.Need-enum-told-4
 enum-told-4 c = search needs
 
--- src/lib.rt:58:1
 returns : tie.Need-returns
 unfolding hasIf
 returns c = rw (c .enum-told .given .1)
 
--- src/lib.rt:58:1
 returns-2 : tie.Need-returns-2
 unfolding hasIf
 returns-2 c = rw (c .enum-told2 .given .1)
 
--- src/lib.rt:58:1
 returns-3 : tie.Need-returns-3
 unfolding hasIf
 returns-3 c = rw (c .enum-told3 .given .1)
 
--- src/lib.rt:58:1
 returns-4 : tie.Need-returns-4
 unfolding hasIf
 returns-4 c = rw (c .enum-told4 .given .1)

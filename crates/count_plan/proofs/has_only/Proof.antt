@@ -3,38 +3,30 @@ use borrow.Author.Needs.{needs}
 use Rattle.count_plan.proofs.has_only.Statement.{statement}
 use Rattle.count_plan.proofs.has_only.Tie as tie
 
--- src/lib.rt:73:27
 enum-told : tie.Need-enum-told
 enum-told c = search needs
 
--- src/lib.rt:74:27
 enum-told-2 : tie.Need-enum-told-2
 enum-told-2 c = search needs
 
--- src/lib.rt:75:31
 enum-told-3 : tie.Need-enum-told-3
 enum-told-3 c = search needs
 
--- src/lib.rt:76:29
 enum-told-4 : tie.Need-enum-told-4
 enum-told-4 c = search needs
 
--- src/lib.rt:69:1
 returns : tie.Need-returns
 unfolding hasOnly
 returns c = rw (c .enum-told .given .1)
 
--- src/lib.rt:69:1
 returns-2 : tie.Need-returns-2
 unfolding hasOnly
 returns-2 c = rw (c .enum-told2 .given .1)
 
--- src/lib.rt:69:1
 returns-3 : tie.Need-returns-3
 unfolding hasOnly
 returns-3 c = rw (c .enum-told3 .given .1)
 
--- src/lib.rt:69:1
 returns-4 : tie.Need-returns-4
 unfolding hasOnly
 returns-4 c = rw (c .enum-told4 .given .1)

@@ -2,15 +2,12 @@ use borrow.Author.Needs.{needs}
 use Rattle.count_plan.proofs.if_wanted.Statement.{statement}
 use Rattle.count_plan.proofs.if_wanted.Tie as tie
 
--- src/lib.rt:172:13
 if-span-requires : tie.Need-if-span-requires
 if-span-requires c κs = search needs
 
--- src/lib.rt:168:1
 returns : tie.Need-returns
 returns c = rw (c .before .if1 .taken) (c .if-span .ensures)
 
--- src/lib.rt:168:1
 returns-2 : tie.Need-returns-2
 returns-2 c = rw (c .if1 .left)
 

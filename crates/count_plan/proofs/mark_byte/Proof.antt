@@ -2,22 +2,18 @@ use Rattle.paper.specs.Plain.{markByte}
 use Rattle.count_plan.proofs.mark_byte.Statement.{statement}
 use Rattle.count_plan.proofs.mark_byte.Tie as tie
 
--- src/lib.rt:80:1
 returns : tie.Need-returns
 unfolding markByte
 returns c = rw (c .before .if1 .taken, c .if2 .taken)
 
--- src/lib.rt:80:1
 returns-2 : tie.Need-returns-2
 unfolding markByte
 returns-2 c = rw (c .before .if1 .taken, c .if2 .left)
 
--- src/lib.rt:80:1
 returns-3 : tie.Need-returns-3
 unfolding markByte
 returns-3 c = rw (c .before .if1 .left, c .if3 .taken)
 
--- src/lib.rt:80:1
 returns-4 : tie.Need-returns-4
 unfolding markByte
 returns-4 c = rw (c .before .if1 .left, c .if3 .left)

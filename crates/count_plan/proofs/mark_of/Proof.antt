@@ -3,22 +3,18 @@ use Rattle.paper.specs.Plain.{markOf}
 use Rattle.count_plan.proofs.mark_of.Statement.{statement}
 use Rattle.count_plan.proofs.mark_of.Tie as tie
 
--- src/lib.rt:47:9
 returns : tie.Need-returns
 unfolding markOf
 returns c = rw (eq-eqb _ _ (c .if1 .taken))
 
--- src/lib.rt:50:9
 returns-2 : tie.Need-returns-2
 unfolding markOf
 returns-2 c = rw (ne-eqb _ _ (c .before .if1 .left), eq-eqb _ _ (c .if2 .taken))
 
--- src/lib.rt:53:9
 returns-3 : tie.Need-returns-3
 unfolding markOf
 returns-3 c = rw (ne-eqb _ _ (c .before .before .if1 .left), ne-eqb _ _ (c .before .if2 .left), eq-eqb _ _ (c .if3 .taken))
 
--- src/lib.rt:43:1
 returns-4 : tie.Need-returns-4
 unfolding markOf
 returns-4 c = rw (ne-eqb _ _ (c .before .before .if1 .left), ne-eqb _ _ (c .before .if2 .left), ne-eqb _ _ (c .if3 .left))

@@ -3,23 +3,18 @@ use borrow.Author.Needs.{needs}
 use Rattle.count_plan.proofs.missing.Statement.{statement}
 use Rattle.count_plan.proofs.missing.Tie as tie
 
--- src/lib.rt:94:9
 mark-of-requires : tie.Need-mark-of-requires
 mark-of-requires c κs = search needs
 
--- src/lib.rt:95:9
 has-if-requires : tie.Need-has-if-requires
 has-if-requires c κs = search needs
 
--- src/lib.rt:96:9
 has-only-requires : tie.Need-has-only-requires
 has-only-requires c κs = search needs
 
--- src/lib.rt:97:9
 mark-byte-requires : tie.Need-mark-byte-requires
 mark-byte-requires c κs = search needs
 
--- src/lib.rt:91:1
 returns : tie.Need-returns
 unfolding missingOf
 returns c = cc

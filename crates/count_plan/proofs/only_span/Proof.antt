@@ -6,23 +6,18 @@ use borrow.Author.Needs.{needs}
 use Rattle.count_plan.proofs.only_span.Statement.{statement}
 use Rattle.count_plan.proofs.only_span.Tie as tie
 
--- src/lib.rt:163:20
 min-requires : tie.Need-min-requires
 min-requires c κs = search needs
 
--- src/lib.rt:163:16
 sub-from : tie.Need-sub-from
 sub-from c = loop-low _ _ _ (c .min .ensures)
 
--- src/lib.rt:164:21
 add-min : tie.Need-add-min
 add-min c = search needs
 
--- src/lib.rt:164:9
 min-requires-2 : tie.Need-min-requires-2
 min-requires-2 c κs = search needs
 
--- src/lib.rt:159:1
 returns : tie.Need-returns
 unfolding onlySpan
 returns c =

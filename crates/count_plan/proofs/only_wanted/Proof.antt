@@ -2,15 +2,12 @@ use borrow.Author.Needs.{needs}
 use Rattle.count_plan.proofs.only_wanted.Statement.{statement}
 use Rattle.count_plan.proofs.only_wanted.Tie as tie
 
--- src/lib.rt:179:13
 only-span-requires : tie.Need-only-span-requires
 only-span-requires c κs = search needs
 
--- src/lib.rt:175:1
 returns : tie.Need-returns
 returns c = rw (c .before .if1 .taken) (c .only-span .ensures)
 
--- src/lib.rt:175:1
 returns-2 : tie.Need-returns-2
 returns-2 c = rw (c .if1 .left)
 

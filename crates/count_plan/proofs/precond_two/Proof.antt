@@ -6,29 +6,23 @@ use borrow.Author.Needs.{needs}
 use Rattle.count_plan.proofs.precond_two.Statement.{statement}
 use Rattle.count_plan.proofs.precond_two.Tie as tie
 
--- src/lib.rt:199:9
 returns : tie.Need-returns
 unfolding planTwo
 returns c = rw (eq-eqb _ _ (c .if1 .taken))
 
--- src/lib.rt:202:9
 returns-2 : tie.Need-returns-2
 unfolding planTwo
 returns-2 c = rw (ne-eqb _ _ (c .before .before .if1 .left), eq-eqb _ _ (c .if2 .taken))
 
--- src/lib.rt:205:22
 con-len-requires : tie.Need-con-len-requires
 con-len-requires c κs = search needs
 
--- src/lib.rt:205:34
 con-len-requires-2 : tie.Need-con-len-requires-2
 con-len-requires-2 c κs = search needs
 
--- src/lib.rt:205:9
 ranges-of-requires : tie.Need-ranges-of-requires
 ranges-of-requires c κs = search needs
 
--- src/lib.rt:194:1
 returns-3 : tie.Need-returns-3
 unfolding planTwo
 returns-3 c =

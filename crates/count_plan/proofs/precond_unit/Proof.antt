@@ -5,19 +5,15 @@ use borrow.Author.Needs.{needs}
 use Rattle.count_plan.proofs.precond_unit.Statement.{statement}
 use Rattle.count_plan.proofs.precond_unit.Tie as tie
 
--- src/lib.rt:214:9
 node-at-requires : tie.Need-node-at-requires
 node-at-requires c κs = search needs
 
--- src/lib.rt:215:9
 node-at-requires-2 : tie.Need-node-at-requires-2
 node-at-requires-2 c κs = search needs
 
--- src/lib.rt:216:9
 precond-two-requires : tie.Need-precond-two-requires
 precond-two-requires c κs = search needs
 
--- src/lib.rt:219:9
 returns : tie.Need-returns
 returns c =
     let a = c .before .before .before .before .before .before .args in
@@ -25,7 +21,6 @@ returns c =
     ∙ ap₂ (λ l r. planTwo (a .n) l r (a .i) (a .todo)) (c .before .before .before .before .node-at .ensures) (c .before .before .before .node-at2 .ensures)
     ∙ sym (unit-fi _ _ _ _ _ (c .if1 .taken))
 
--- src/lib.rt:222:9
 returns-2 : tie.Need-returns-2
 returns-2 c =
     let a = c .before .before .before .before .before .before .before .args in
@@ -33,7 +28,6 @@ returns-2 c =
     ∙ ap₂ (λ l r. planTwo (a .n) l r (a .i) (a .todo)) (c .before .before .before .before .before .node-at .ensures) (c .before .before .before .before .node-at2 .ensures)
     ∙ sym (unit-fo _ _ _ _ _ (c .before .if1 .left) (c .if2 .taken))
 
--- src/lib.rt:209:1
 returns-3 : tie.Need-returns-3
 returns-3 c = sym (unit-none _ _ _ _ _ (c .before .if1 .left) (c .if2 .left))
 

@@ -3,23 +3,18 @@ use borrow.Author.Needs.{needs}
 use Rattle.count_plan.proofs.ranges_of.Statement.{statement}
 use Rattle.count_plan.proofs.ranges_of.Tie as tie
 
--- src/lib.rt:186:9
 if-wanted-requires : tie.Need-if-wanted-requires
 if-wanted-requires c κs = search needs
 
--- src/lib.rt:187:9
 if-wanted-requires-2 : tie.Need-if-wanted-requires-2
 if-wanted-requires-2 c κs = search needs
 
--- src/lib.rt:188:9
 only-wanted-requires : tie.Need-only-wanted-requires
 only-wanted-requires c κs = search needs
 
--- src/lib.rt:189:9
 only-wanted-requires-2 : tie.Need-only-wanted-requires-2
 only-wanted-requires-2 c κs = search needs
 
--- src/lib.rt:182:1
 returns : tie.Need-returns
 unfolding rangesOf
 returns c = cc

@@ -21,18 +21,15 @@ use Rattle.counts.proofs.run_twice.Lts as lts
 use Rattle.count.proofs.define_unweighted_rec.Reads as define-unweighted-rec-reads
 use Rattle.runs.proofs.literal_at.Reads as literal-at-reads
 
--- src/lib.rt:49:9
 define-unweighted-rec-requires : tie.Need-define-unweighted-rec-requires
 define-unweighted-rec-requires c κs = let s = c .before .before .before .before .before .before in
     let small : length (s .args .clauses .now) ≤ 2 ^ 62 = omega (arith, s .good .1 .1 .1 .1 .0) in
     let few : length (s .args .ints .now) < 2 ^ 31 = rw (s .pre .1 .1 .0 .0) (s .pre .1 .1 .1 .0) in
     (fit-dry _ _ (s .args .lits .now) _ (s .args .marks .now) _ (runOf (s .args .c)) _ (s .pre .1 .1 .0 .0) (s .pre .1 .1 .0 .1) small (s .pre .0), (s .pre .1 .0, dry-ends _ _ _ _ _ _ _ _ small few))
 
--- src/lib.rt:50:16
 sub-vars : tie.Need-sub-vars
 sub-vars c = search needs
 
--- src/lib.rt:51:17
 sub-words : tie.Need-sub-words
 sub-words c = let s = c .before .before .before .before .before .before .before .before .before .before .before .before .before in
     let small : length (s .args .clauses .now) ≤ 2 ^ 62 = omega (arith, s .good .1 .1 .1 .1 .0) in
@@ -40,11 +37,9 @@ sub-words c = let s = c .before .before .before .before .before .before .before 
     let k = known (s .args .nodes .now) (s .args .inputs .now) (s .args .id) (s .args .i) (s .args .want) (s .args .lits .now) _ (s .args .marks .now) _ (s .args .clauses .now) small (s .pre .1 .1 .0 .0) (s .pre .1 .1 .0 .1) (s .pre .1 .1 .1 .0) _ _ _ _ (d .ensures) (s .args .c .next) (s .pre .0 .some) in
     omega (arith, k .words)
 
--- src/lib.rt:52:8
 add-if1 : tie.Need-add-if1
 add-if1 c = search needs
 
--- src/lib.rt:52:21
 add-if1-2 : tie.Need-add-if1-2
 add-if1-2 c = let s = c .before .before .before .before .before .before .before .before .before .before .before .before .before .before .before in
     let small : length (s .args .clauses .now) ≤ 2 ^ 62 = omega (arith, s .good .1 .1 .1 .1 .0) in
@@ -52,19 +47,15 @@ add-if1-2 c = let s = c .before .before .before .before .before .before .before 
     let k = known (s .args .nodes .now) (s .args .inputs .now) (s .args .id) (s .args .i) (s .args .want) (s .args .lits .now) _ (s .args .marks .now) _ (s .args .clauses .now) small (s .pre .1 .1 .0 .0) (s .pre .1 .1 .0 .1) (s .pre .1 .1 .1 .0) _ _ _ _ (d .ensures) (s .args .c .next) (s .pre .0 .some) in
     omega (arith, k .fits, s .pre .1 .1 .1 .2, s .pre .1 .1 .1 .3)
 
--- src/lib.rt:53:9
 same-length : tie.Need-same-length
 same-length c = search needs
 
--- src/lib.rt:53:9
 same-length-2 : tie.Need-same-length-2
 same-length-2 c = search needs
 
--- src/lib.rt:53:9
 same-length-3 : tie.Need-same-length-3
 same-length-3 c = search needs
 
--- src/lib.rt:53:9
 returns : tie.Need-returns
 returns c = let s = c .before .before .before .before .before .before .before .before .before .before .before .before .before .before .before .before in
     let small : length (s .args .clauses .now) ≤ 2 ^ 62 = omega (arith, s .good .1 .1 .1 .1 .0) in
@@ -73,7 +64,6 @@ returns c = let s = c .before .before .before .before .before .before .before .b
     let h : s .args .c .last + 1 < (plainRun (s .args .nodes .now) (s .args .inputs .now) (s .args .lits .now) (s .args .marks .now) (s .args .c .next) (s .args .id) (s .args .i) (s .args .want)) .next = omega (arith, k .next, c .if1 .taken, s .pre .0 .some) in
     record { answer = sym (no-vars _ _ _ _ h); lits-are = refl; marks-are = refl; row-is = k .row-is }
 
--- src/lib.rt:55:14
 add-if2 : tie.Need-add-if2
 add-if2 c = let s = c .before .before .before .before .before .before .before .before .before .before .before .before .before .before .before .before .before in
     let small : length (s .args .clauses .now) ≤ 2 ^ 62 = omega (arith, s .good .1 .1 .1 .1 .0) in
@@ -81,19 +71,15 @@ add-if2 c = let s = c .before .before .before .before .before .before .before .b
     let k = known (s .args .nodes .now) (s .args .inputs .now) (s .args .id) (s .args .i) (s .args .want) (s .args .lits .now) _ (s .args .marks .now) _ (s .args .clauses .now) small (s .pre .1 .1 .0 .0) (s .pre .1 .1 .0 .1) (s .pre .1 .1 .1 .0) _ _ _ _ (d .ensures) (s .args .c .next) (s .pre .0 .some) in
     omega (arith, k .words, s .pre .1 .1 .1 .1, s .good .1 .1 .1 .1 .0)
 
--- src/lib.rt:56:9
 same-length-4 : tie.Need-same-length-4
 same-length-4 c = search needs
 
--- src/lib.rt:56:9
 same-length-5 : tie.Need-same-length-5
 same-length-5 c = search needs
 
--- src/lib.rt:56:9
 same-length-6 : tie.Need-same-length-6
 same-length-6 c = search needs
 
--- src/lib.rt:56:9
 returns-2 : tie.Need-returns-2
 returns-2 c = let s = c .before .before .before .before .before .before .before .before .before .before .before .before .before .before .before .before .before .before in
     let small : length (s .args .clauses .now) ≤ 2 ^ 62 = omega (arith, s .good .1 .1 .1 .1 .0) in
@@ -103,7 +89,6 @@ returns-2 c = let s = c .before .before .before .before .before .before .before 
     let o : length (s .args .clauses .now) < s .args .c .words + length ((plainRun (s .args .nodes .now) (s .args .inputs .now) (s .args .lits .now) (s .args .marks .now) (s .args .c .next) (s .args .id) (s .args .i) (s .args .want)) .out) = omega (arith, k .words, c .if2 .taken, s .good .1 .1 .1 .1 .0) in
     record { answer = sym (no-room _ _ _ _ v o); lits-are = refl; marks-are = refl; row-is = k .row-is }
 
--- src/lib.rt:58:9
 define-unweighted-rec-requires-2 : tie.Need-define-unweighted-rec-requires-2
 define-unweighted-rec-requires-2 c κs = let s = c .before .before .before .before .before .before .before .before .before .before .before .before .before .before .before .before .before .before .before .before .before in
     let small : length (s .args .clauses .now) ≤ 2 ^ 62 = omega (arith, s .good .1 .1 .1 .1 .0) in
@@ -114,32 +99,25 @@ define-unweighted-rec-requires-2 c κs = let s = c .before .before .before .befo
     let small1 : length row ≤ 2 ^ 62 = rw (k .row-is) small in
     (s .pre .0, (s .pre .1 .0, real-ends (s .args .nodes .now) (s .args .inputs .now) (s .args .id) (s .args .i) (s .args .want) (s .args .lits .now) (s .args .marks .now) row small1 (runOf (s .args .c)) (s .pre .0 .counted) (omega (arith, s .pre .1 .1 .1 .2))))
 
--- src/lib.rt:59:9
 literal-at-requires : tie.Need-literal-at-requires
 literal-at-requires c κs = let s = c .before .before .before .before .before .before .before .before .before .before .before .before .before .before .before .before .before .before .before .before .before .before .before .before .before .before .before in
     (c .before .before .before .before .before .define-unweighted-rec2 .ensures .fit .ok, s .pre .1 .0)
 
--- src/lib.rt:39:1
 same-length-7 : tie.Need-same-length-7
 same-length-7 c = search needs
 
--- src/lib.rt:39:1
 same-length-8 : tie.Need-same-length-8
 same-length-8 c = search needs
 
--- src/lib.rt:39:1
 same-length-9 : tie.Need-same-length-9
 same-length-9 c = search needs
 
--- src/lib.rt:39:1
 same-length-10 : tie.Need-same-length-10
 same-length-10 c = c .before .before .before .before .before .before .before .before .before .before .before .before .before .before .before .before .before .before .before .before .before .define-unweighted-rec .kept .1 .1 .0
 
--- src/lib.rt:39:1
 same-length-11 : tie.Need-same-length-11
 same-length-11 c = search needs
 
--- src/lib.rt:39:1
 returns-3 : tie.Need-returns-3
 returns-3 c = let s = c .before .before .before .before .before .before .before .before .before .before .before .before .before .before .before .before .before .before .before .before .before .before .before .before .before .before .before .before in
     let small : length (s .args .clauses .now) ≤ 2 ^ 62 = omega (arith, s .good .1 .1 .1 .1 .0) in

@@ -17,65 +17,52 @@ Inv-loop keys n m more v lo₀ hi₀ lo hi =
 abbrev μ-loop : tie.MeasureT-loop
 μ-loop keys n m more v lo₀ hi₀ lo hi = hi - lo
 
--- src/lib.rt:137:9
 con-len-requires : tie.Need-con-len-requires Inv-loop μ-loop
 con-len-requires c κs = tt
 
--- src/lib.rt:138:5
 loop-holds : tie.Need-loop-holds Inv-loop μ-loop
 loop-holds c = (omega arith, omega (arith, c .con-len .ensures), λ i h. absurd (let z : ⊥ = omega arith in z), λ i h k. absurd (let z : ⊥ = omega (arith, c .con-len .ensures) in z))
 
--- src/lib.rt:139:25
 sub-mid : tie.Need-sub-mid Inv-loop μ-loop
 sub-mid c = omega arith
 
--- src/lib.rt:139:19
 add-mid : tie.Need-add-mid Inv-loop μ-loop
 add-mid c = omega (arith, c .loop-test .taken)
 
--- src/lib.rt:140:13
 value-at-requires : tie.Need-value-at-requires Inv-loop μ-loop
 value-at-requires c κs = tt
 
--- src/lib.rt:141:12
 mul-if1 : tie.Need-mul-if1 Inv-loop μ-loop
 mul-if1 c = let a : c .before .before .before .before .before .args .m ≤ 2 ^ 16 = omega (arith, c .before .before .before .before .before .pre .0 .0) in
     let b : c .value-at .result ≤ 2 ^ 32 = omega (arith, c .value-at .ensures .1) in
     omega (arith, mul-le-mul a b)
 
--- src/lib.rt:141:12
 add-if1 : tie.Need-add-if1 Inv-loop μ-loop
 add-if1 c = let a : c .before .before .before .before .before .args .m ≤ 2 ^ 16 = omega (arith, c .before .before .before .before .before .pre .0 .0) in
     let b : c .value-at .result ≤ 2 ^ 32 = omega (arith, c .value-at .ensures .1) in
     omega (arith, mul-le-mul a b, c .before .before .before .before .before .pre .0 .1)
 
--- src/lib.rt:142:18
 add-lo : tie.Need-add-lo Inv-loop μ-loop
 add-lo c = omega (arith, c .before .before .loop-test .taken)
 
--- src/lib.rt:138:5
 loop-less : tie.Need-loop-less Inv-loop μ-loop
 loop-less c = omega (arith, c .before .before .loop-test .taken)
 
--- src/lib.rt:138:5
 loop-again : tie.Need-loop-again Inv-loop μ-loop
 loop-again c = let s = c .before .before .before .before .before .before in
     let l = c .before .before .before .loop in
     let e = c .before .value-at .ensures .0 in
     (omega (arith, c .before .before .loop-test .taken), l .inv .1, cut-below (s .args .keys .now) (s .args .n) (s .pre .1) (s .args .m) (s .args .more) (s .args .v) _ (omega (arith, l .inv .1, c .before .before .loop-test .taken)) (rw (← e) (c .if1 .taken)), l .inv .3)
 
--- src/lib.rt:138:5
 loop-less-2 : tie.Need-loop-less-2 Inv-loop μ-loop
 loop-less-2 c = omega (arith, c .before .before .loop-test .taken)
 
--- src/lib.rt:138:5
 loop-again-2 : tie.Need-loop-again-2 Inv-loop μ-loop
 loop-again-2 c = let s = c .before .before .before .before .before .before in
     let l = c .before .before .before .loop in
     let e = c .before .value-at .ensures .0 in
     (omega (arith, c .before .before .loop-test .taken), omega (arith, l .inv .1, c .before .before .loop-test .taken), l .inv .2, cut-above (s .args .keys .now) (s .args .n) (s .pre .1) (s .args .m) (s .args .more) (s .args .v) _ (omega (arith, l .inv .1, c .before .before .loop-test .taken)) (rw (← e) (c .if1 .left)))
 
--- src/lib.rt:131:1
 returns : tie.Need-returns Inv-loop μ-loop
 returns c = let l = c .before .loop in
     record { inside = omega (arith, l .inv .0, l .inv .1); below = l .inv .2; above = λ i h k. l .inv .3 i (omega (arith, c .loop-test .left, l .inv .0)) k }

@@ -10,19 +10,15 @@ use Rattle.find.proofs.left_count.Lts as lts
 use Rattle.rows.proofs.con_len.Reads as con-len-reads
 use Rattle.rows.proofs.node_at.Reads as node-at-reads
 
--- src/lib.rt:123:9
 node-at-requires : tie.Need-node-at-requires
 node-at-requires c κs = search needs
 
--- src/lib.rt:124:9
 node-at-requires-2 : tie.Need-node-at-requires-2
 node-at-requires-2 c κs = search needs
 
--- src/lib.rt:125:5
 con-len-requires : tie.Need-con-len-requires
 con-len-requires c κs = search needs
 
--- src/lib.rt:119:1
 returns : tie.Need-returns
 returns c = rw (c .con-len .ensures ∙ ap valueCount (c .before .node-at2 .ensures), c .before .before .node-at .ensures)
 

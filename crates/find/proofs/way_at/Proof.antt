@@ -11,19 +11,15 @@ use Rattle.find.proofs.way_at.Lts as lts
 use Rattle.find.proofs.way_two.Reads as way-two-reads
 use Rattle.rows.proofs.node_at.Reads as node-at-reads
 
--- src/lib.rt:112:9
 node-at-requires : tie.Need-node-at-requires
 node-at-requires c κs = search needs
 
--- src/lib.rt:113:9
 node-at-requires-2 : tie.Need-node-at-requires-2
 node-at-requires-2 c κs = search needs
 
--- src/lib.rt:114:9
 node-at-requires-3 : tie.Need-node-at-requires-3
 node-at-requires-3 c κs = search needs
 
--- src/lib.rt:115:5
 way-two-requires : tie.Need-way-two-requires
 way-two-requires c κs = let s = c .before .before .before .before .before in
     let n = c .before .before .node-at .ensures in
@@ -31,7 +27,6 @@ way-two-requires c κs = let s = c .before .before .before .before .before in
     let r = c .node-at3 .ensures ∙ ap (λ (m : Node). nodeAt (s .args .nodes .now) (m .right)) n in
     (muls-by _ _ n (s .pre .0), (sorted-by _ _ _ l (s .pre .1 .0), sorted-by _ _ _ r (s .pre .1 .1)))
 
--- src/lib.rt:107:1
 returns : tie.Need-returns
 returns c = rw (← c .before .before .before .node-at .ensures, ← c .before .before .node-at2 .ensures, ← c .before .node-at3 .ensures) (c .way-two .ensures)
 

@@ -22,12 +22,10 @@ use Rattle.meet.proofs.meet_sum.Lts as lts
 use Rattle.runs.proofs.literal_at.Reads as literal-at-reads
 use Rattle.sum.proofs.weigh.Reads as weigh-reads
 
--- src/lib.rt:43:13
 add-y : tie.Need-add-y
 add-y c = let s = c .before .before .before .before in
     omega (arith, s .pre .1 .0 .out, outs-few (s .args .nodes .now) _ _ (s .args .id) (s .pre .0 .fit .ok) (s .pre .1 .0 .below), s .pre .0 .few)
 
--- src/lib.rt:49:9
 weigh-requires : tie.Need-weigh-requires
 weigh-requires c κs = let s = c .before .before .before .before .before .before .before in
     let small : length (s .args .clauses .now) ≤ 2 ^ 62 = omega (arith, s .good .1 .1 .1 .1 .1 .0) in (
@@ -35,11 +33,9 @@ weigh-requires c κs = let s = c .before .before .before .before .before .before
       (s .pre .0 .generals, (record { below = s .pre .1 .0 .below; out = omega (arith, s .pre .1 .0 .out) }, sum-dry-ends (s .args .nodes .now) (s .args .inputs .now) (s .args .keys .now) (s .args .lits .now) _ (s .args .marks .now) _ (s .args .clauses .now) (s .args .id) (s .args .j + 1) small (s .pre .0 .few) (s .pre .1 .1 .0) (s .pre .1 .1 .1))),
     )
 
--- src/lib.rt:50:16
 sub-vars : tie.Need-sub-vars
 sub-vars c = search needs
 
--- src/lib.rt:51:17
 sub-words : tie.Need-sub-words
 sub-words c = let s = c .before .before .before .before .before .before .before .before .before .before .before .before .before .before in
     let small : length (s .args .clauses .now) ≤ 2 ^ 62 = omega (arith, s .good .1 .1 .1 .1 .1 .0) in
@@ -47,11 +43,9 @@ sub-words c = let s = c .before .before .before .before .before .before .before 
     let k = sum-known (s .args .nodes .now) (s .args .inputs .now) (s .args .keys .now) (s .args .lits .now) _ (s .args .marks .now) _ (s .args .clauses .now) (s .args .id) (s .args .j + 1) small (s .pre .0 .few) (s .pre .1 .1 .0) (s .pre .1 .1 .1) _ _ _ _ (d .ensures .is) (s .args .c .next) (s .pre .0 .fit .some) in
     omega (arith, k .words)
 
--- src/lib.rt:52:8
 add-if1 : tie.Need-add-if1
 add-if1 c = search needs
 
--- src/lib.rt:52:21
 add-if1-2 : tie.Need-add-if1-2
 add-if1-2 c = let s = c .before .before .before .before .before .before .before .before .before .before .before .before .before .before .before .before in
     let small : length (s .args .clauses .now) ≤ 2 ^ 62 = omega (arith, s .good .1 .1 .1 .1 .1 .0) in
@@ -59,19 +53,15 @@ add-if1-2 c = let s = c .before .before .before .before .before .before .before 
     let k = sum-known (s .args .nodes .now) (s .args .inputs .now) (s .args .keys .now) (s .args .lits .now) _ (s .args .marks .now) _ (s .args .clauses .now) (s .args .id) (s .args .j + 1) small (s .pre .0 .few) (s .pre .1 .1 .0) (s .pre .1 .1 .1) _ _ _ _ (d .ensures .is) (s .args .c .next) (s .pre .0 .fit .some) in
     omega (arith, k .fits, s .pre .0 .last, s .pre .0 .next)
 
--- src/lib.rt:53:9
 same-length : tie.Need-same-length
 same-length c = search needs
 
--- src/lib.rt:53:9
 same-length-2 : tie.Need-same-length-2
 same-length-2 c = search needs
 
--- src/lib.rt:53:9
 same-length-3 : tie.Need-same-length-3
 same-length-3 c = search needs
 
--- src/lib.rt:53:9
 returns : tie.Need-returns
 returns c = let s = c .before .before .before .before .before .before .before .before .before .before .before .before .before .before .before .before .before in
     let small : length (s .args .clauses .now) ≤ 2 ^ 62 = omega (arith, s .good .1 .1 .1 .1 .1 .0) in
@@ -80,7 +70,6 @@ returns c = let s = c .before .before .before .before .before .before .before .b
     let h : s .args .c .last + 1 < (weighRun (s .args .nodes .now) (s .args .inputs .now) (s .args .keys .now) (s .args .lits .now) (s .args .marks .now) (s .args .c .next) (s .args .id) (s .args .j + 1)) .next = omega (arith, k .next, c .if1 .taken, s .pre .0 .fit .some) in
     record { answer = sym (no-vars _ _ _ _ h); lits-are = refl; marks-are = refl; row-is = k .row-is }
 
--- src/lib.rt:55:14
 add-if2 : tie.Need-add-if2
 add-if2 c = let s = c .before .before .before .before .before .before .before .before .before .before .before .before .before .before .before .before .before .before in
     let small : length (s .args .clauses .now) ≤ 2 ^ 62 = omega (arith, s .good .1 .1 .1 .1 .1 .0) in
@@ -88,19 +77,15 @@ add-if2 c = let s = c .before .before .before .before .before .before .before .b
     let k = sum-known (s .args .nodes .now) (s .args .inputs .now) (s .args .keys .now) (s .args .lits .now) _ (s .args .marks .now) _ (s .args .clauses .now) (s .args .id) (s .args .j + 1) small (s .pre .0 .few) (s .pre .1 .1 .0) (s .pre .1 .1 .1) _ _ _ _ (d .ensures .is) (s .args .c .next) (s .pre .0 .fit .some) in
     omega (arith, k .words, k .fits, s .pre .0 .words, s .good .1 .1 .1 .1 .1 .0)
 
--- src/lib.rt:56:9
 same-length-4 : tie.Need-same-length-4
 same-length-4 c = search needs
 
--- src/lib.rt:56:9
 same-length-5 : tie.Need-same-length-5
 same-length-5 c = search needs
 
--- src/lib.rt:56:9
 same-length-6 : tie.Need-same-length-6
 same-length-6 c = search needs
 
--- src/lib.rt:56:9
 returns-2 : tie.Need-returns-2
 returns-2 c = let s = c .before .before .before .before .before .before .before .before .before .before .before .before .before .before .before .before .before .before .before in
     let small : length (s .args .clauses .now) ≤ 2 ^ 62 = omega (arith, s .good .1 .1 .1 .1 .1 .0) in
@@ -110,7 +95,6 @@ returns-2 c = let s = c .before .before .before .before .before .before .before 
     let o : length (s .args .clauses .now) < s .args .c .words + length ((weighRun (s .args .nodes .now) (s .args .inputs .now) (s .args .keys .now) (s .args .lits .now) (s .args .marks .now) (s .args .c .next) (s .args .id) (s .args .j + 1)) .out) = omega (arith, k .words, c .if2 .taken, s .good .1 .1 .1 .1 .1 .0) in
     record { answer = sym (no-room _ _ _ _ v o); lits-are = refl; marks-are = refl; row-is = k .row-is }
 
--- src/lib.rt:62:9
 weigh-requires-2 : tie.Need-weigh-requires-2
 weigh-requires-2 c κs = let s = c .before .before .before .before .before .before .before .before .before .before .before .before .before .before .before .before .before .before .before .before .before .before in
     let small : length (s .args .clauses .now) ≤ 2 ^ 62 = omega (arith, s .good .1 .1 .1 .1 .1 .0) in
@@ -121,31 +105,24 @@ weigh-requires-2 c κs = let s = c .before .before .before .before .before .befo
       (s .pre .0 .generals, (record { below = s .pre .1 .0 .below; out = omega (arith, s .pre .1 .0 .out) }, sum-real-ends (s .args .nodes .now) (s .args .inputs .now) (s .args .keys .now) (s .args .lits .now) (s .args .marks .now) _ (s .args .clauses .now) (s .args .id) (s .args .j + 1) small (k .row-is) (runOf (s .args .c)) (s .pre .0 .fit .counted) (omega (arith, s .pre .0 .last)))),
     )
 
--- src/lib.rt:63:9
 literal-at-requires : tie.Need-literal-at-requires
 literal-at-requires c κs = let s = c .before .before .before .before .before .before .before .before .before .before .before .before .before .before .before .before .before .before .before .before .before .before .before .before .before .before .before .before in (c .before .before .before .before .before .weigh2 .ensures .fit .ok, s .pre .1 .0)
 
--- src/lib.rt:24:1
 same-length-7 : tie.Need-same-length-7
 same-length-7 c = search needs
 
--- src/lib.rt:24:1
 same-length-8 : tie.Need-same-length-8
 same-length-8 c = search needs
 
--- src/lib.rt:24:1
 same-length-9 : tie.Need-same-length-9
 same-length-9 c = search needs
 
--- src/lib.rt:24:1
 same-length-10 : tie.Need-same-length-10
 same-length-10 c = c .before .before .before .before .before .before .before .before .before .before .before .before .before .before .before .before .before .before .before .before .before .weigh .kept .1 .1 .1 .0
 
--- src/lib.rt:24:1
 same-length-11 : tie.Need-same-length-11
 same-length-11 c = search needs
 
--- src/lib.rt:24:1
 returns-3 : tie.Need-returns-3
 returns-3 c = let s = c .before .before .before .before .before .before .before .before .before .before .before .before .before .before .before .before .before .before .before .before .before .before .before .before .before .before .before .before .before in
     let small : length (s .args .clauses .now) ≤ 2 ^ 62 = omega (arith, s .good .1 .1 .1 .1 .1 .0) in

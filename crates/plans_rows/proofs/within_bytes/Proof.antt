@@ -7,11 +7,9 @@ use Rattle.plans_rows.proofs.within_bytes.Tie as tie
 use Rattle.plans_rows.proofs.within_bytes.Reads as reads
 use Rattle.plans_rows.proofs.within_bytes.Lts as lts
 
--- src/lib.rt:77:1
 returns : tie.Need-returns
 returns c = (omega arith, sym (length-take-le _ _ (omega arith)))
 
--- src/lib.rt:77:1
 returns-2 : tie.Need-returns-2
 returns-2 c = (omega arith, sym (length-take-le _ _ (omega arith)))
 

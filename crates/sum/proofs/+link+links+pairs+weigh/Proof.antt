@@ -91,11 +91,9 @@ pairs-calls t = (window-reads.Asked, window-reads.Learnt, way-at-reads.Asked, wa
 abbrev weigh-calls : ℕ → weigh-lts.Claims
 weigh-calls t = (job-at-reads.Asked, job-at-reads.Learnt, define-unweighted-rec-reads.Asked, define-unweighted-rec-reads.Learnt, take-lit-reads.Asked, take-lit-reads.Learnt, links-below t, links.Post)
 
--- src/lib.rt:182:9
 link-node-at-requires : (t : ℕ) → link-lts.Need-node-at-requires (link-calls t) (link-at t) link.Post
 link-node-at-requires t c κs = tt
 
--- src/lib.rt:183:9
 link-weigh-requires : (t : ℕ) → link-lts.Need-weigh-requires (link-calls t) (link-at t) link.Post
 link-weigh-requires t c κs = let s = c .before .before .before .before .before .before .before in
     let n = c .before .before .before .node-at in
@@ -119,7 +117,6 @@ link-weigh-requires t c κs = let s = c .before .before .before .before .before 
       ),
     )
 
--- src/lib.rt:184:9
 link-weigh-requires-2 : (t : ℕ) → link-lts.Need-weigh-requires-2 (link-calls t) (link-at t) link.Post
 link-weigh-requires-2 t c κs = let s = c .before .before .before .before .before .before .before .before .before .before .before .before .before .before .before in
     let n = c .before .before .before .before .before .before .before .before .before .before .before .node-at in
@@ -144,7 +141,6 @@ link-weigh-requires-2 t c κs = let s = c .before .before .before .before .befor
       ),
     )
 
--- src/lib.rt:185:9
 link-clause-of-requires : (t : ℕ) → link-lts.Need-clause-of-requires (link-calls t) (link-at t) link.Post
 link-clause-of-requires t c κs = let s = c .before .before .before .before .before .before .before .before .before .before .before .before .before .before .before .before .before .before .before .before .before .before in
     let n = c .before .before .before .before .before .before .before .before .before .before .before .before .before .before .before .before .before .before .node-at in
@@ -170,19 +166,15 @@ link-clause-of-requires t c κs = let s = c .before .before .before .before .bef
       d .counted,
     )
 
--- src/lib.rt:162:1
 link-same-length : (t : ℕ) → link-lts.Need-same-length (link-calls t) (link-at t) link.Post
 link-same-length t c = c .before .before .before .before .before .before .before .before .weigh2 .kept .1 .1 .1 .0 ∙ c .before .before .before .before .before .before .before .before .before .before .before .before .before .before .before .before .weigh .kept .1 .1 .1 .0
 
--- src/lib.rt:162:1
 link-same-length-2 : (t : ℕ) → link-lts.Need-same-length-2 (link-calls t) (link-at t) link.Post
 link-same-length-2 t c = c .before .before .before .before .before .before .before .before .weigh2 .kept .1 .1 .1 .1 .0 ∙ c .before .before .before .before .before .before .before .before .before .before .before .before .before .before .before .before .weigh .kept .1 .1 .1 .1 .0
 
--- src/lib.rt:162:1
 link-same-length-3 : (t : ℕ) → link-lts.Need-same-length-3 (link-calls t) (link-at t) link.Post
 link-same-length-3 t c = c .before .clause-of .kept .1 .1 .1 .0 ∙ c .before .before .before .before .before .before .before .before .weigh2 .kept .1 .1 .1 .1 .1 .0 ∙ c .before .before .before .before .before .before .before .before .before .before .before .before .before .before .before .before .weigh .kept .1 .1 .1 .1 .1 .0
 
--- src/lib.rt:162:1
 link-returns : (t : ℕ) → link-lts.Need-returns (link-calls t) (link-at t) link.Post
 link-returns t c = let s = c .before .before .before .before .before .before .before .before .before .before .before .before .before .before .before .before .before .before .before .before .before .before .before .before in
     let n = c .before .before .before .before .before .before .before .before .before .before .before .before .before .before .before .before .before .before .before .before .node-at in
@@ -202,7 +194,6 @@ link-returns t c = let s = c .before .before .before .before .before .before .be
       fit = fit-words _ _ _ _ (c .before .before .before .before .before .before .before .before .weigh2 .result) (d2 .fit) (q .result) (q .ensures .counted);
     }
 
--- src/lib.rt:120:9
 links-pairs-requires : (t : ℕ) → links-lts.Need-pairs-requires (links-calls t) (links-at t) links.Post
 links-pairs-requires t c κs = let s = c .before .before .before .before .before .before in
     let b = s .pre .1 .1 .1 .0 in
@@ -221,11 +212,9 @@ links-pairs-requires t c κs = let s = c .before .before .before .before .before
       ),
     )
 
--- src/lib.rt:121:9
 links-left-count-requires : (t : ℕ) → links-lts.Need-left-count-requires (links-calls t) (links-at t) links.Post
 links-left-count-requires t c κs = tt
 
--- src/lib.rt:122:9
 links-way-at-requires : (t : ℕ) → links-lts.Need-way-at-requires (links-calls t) (links-at t) links.Post
 links-way-at-requires t c κs = let s = c .before .before .before .before .before .before .before .before .before .before .before .before in
     let b = s .pre .1 .1 .1 .0 in
@@ -233,7 +222,6 @@ links-way-at-requires t c κs = let s = c .before .before .before .before .befor
     let g = s .pre .1 .1 .0 (s .args .id) (b .below) (b .general) in
     (g .muls, (g .left-sorted, g .right-sorted))
 
--- src/lib.rt:123:9
 links-link-requires : (t : ℕ) → links-lts.Need-link-requires (links-calls t) (links-at t) links.Post
 links-link-requires t c κs = let s = c .before .before .before .before .before .before .before .before .before .before .before .before .before .before .before .before in
     let b = s .pre .1 .1 .1 .0 in
@@ -254,7 +242,6 @@ links-link-requires t c κs = let s = c .before .before .before .before .before 
       ),
     )
 
--- src/lib.rt:124:40
 links-add-way-at : (t : ℕ) → links-lts.Need-add-way-at (links-calls t) (links-at t) links.Post
 links-add-way-at t c = let s = c .before .before .before .before .before .before .before .before .before .before .before .before .before .before .before .before .before .before .before .before .before in
     let b = s .pre .1 .1 .1 .0 in
@@ -262,7 +249,6 @@ links-add-way-at t c = let s = c .before .before .before .before .before .before
     let g = s .pre .1 .1 .0 (s .args .id) (b .below) (b .general) in
     omega (arith, c .before .before .before .before .before .before .before .before .before .left-count .ensures, g .few)
 
--- src/lib.rt:124:9
 links-way-at-requires-2 : (t : ℕ) → links-lts.Need-way-at-requires-2 (links-calls t) (links-at t) links.Post
 links-way-at-requires-2 t c κs = let s = c .before .before .before .before .before .before .before .before .before .before .before .before .before .before .before .before .before .before .before .before .before in
     let b = s .pre .1 .1 .1 .0 in
@@ -270,7 +256,6 @@ links-way-at-requires-2 t c κs = let s = c .before .before .before .before .bef
     let g = s .pre .1 .1 .0 (s .args .id) (b .below) (b .general) in
     (g .muls, (g .left-sorted, g .right-sorted))
 
--- src/lib.rt:125:5
 links-link-requires-2 : (t : ℕ) → links-lts.Need-link-requires-2 (links-calls t) (links-at t) links.Post
 links-link-requires-2 t c κs = let s = c .before .before .before .before .before .before .before .before .before .before .before .before .before .before .before .before .before .before .before .before .before .before .before .before .before in
     let b = s .pre .1 .1 .1 .0 in
@@ -292,19 +277,15 @@ links-link-requires-2 t c κs = let s = c .before .before .before .before .befor
       ),
     )
 
--- src/lib.rt:100:1
 links-same-length : (t : ℕ) → links-lts.Need-same-length (links-calls t) (links-at t) links.Post
 links-same-length t c = c .before .before .before .before .link2 .kept .1 .1 .1 .0 ∙ c .before .before .before .before .before .before .before .before .before .before .before .before .before .link .kept .1 .1 .1 .0 ∙ c .before .before .before .before .before .before .before .before .before .before .before .before .before .before .before .before .before .before .before .before .before .before .before .pairs .kept .1 .1 .1 .0
 
--- src/lib.rt:100:1
 links-same-length-2 : (t : ℕ) → links-lts.Need-same-length-2 (links-calls t) (links-at t) links.Post
 links-same-length-2 t c = c .before .before .before .before .link2 .kept .1 .1 .1 .1 .0 ∙ c .before .before .before .before .before .before .before .before .before .before .before .before .before .link .kept .1 .1 .1 .1 .0 ∙ c .before .before .before .before .before .before .before .before .before .before .before .before .before .before .before .before .before .before .before .before .before .before .before .pairs .kept .1 .1 .1 .1 .0
 
--- src/lib.rt:100:1
 links-same-length-3 : (t : ℕ) → links-lts.Need-same-length-3 (links-calls t) (links-at t) links.Post
 links-same-length-3 t c = c .before .before .before .before .link2 .kept .1 .1 .1 .1 .1 .0 ∙ c .before .before .before .before .before .before .before .before .before .before .before .before .before .link .kept .1 .1 .1 .1 .1 .0 ∙ c .before .before .before .before .before .before .before .before .before .before .before .before .before .before .before .before .before .before .before .before .before .before .before .pairs .kept .1 .1 .1 .1 .1 .0
 
--- src/lib.rt:100:1
 links-returns : (t : ℕ) → links-lts.Need-returns (links-calls t) (links-at t) links.Post
 links-returns t c = let s = c .before .before .before .before .before .before .before .before .before .before .before .before .before .before .before .before .before .before .before .before .before .before .before .before .before .before .before .before .before .before in
     let u = c .before .before .before .before .before .before .before .before .before .before .before .before .before .before .before .before .before .before .before .before .before .before .before .pairs .ensures in
@@ -323,25 +304,21 @@ pairs-Inv-loop nodes inputs keys lits₀ marks₀ row₀ id at v to k₀ r₀ li
 abbrev pairs-μ-loop : pairs-lts.MeasureT-loop
 pairs-μ-loop nodes inputs keys lits₀ marks₀ row₀ id at v to k₀ r₀ lits marks row k r = to - k
 
--- src/lib.rt:149:9
 pairs-window-requires : (t : ℕ) → pairs-lts.Need-window-requires (pairs-calls t) (pairs-at t) pairs.Post pairs-Inv-loop pairs-μ-loop
 pairs-window-requires t c κs = let s = c .before .before .before in
     let g = s .pre .1 .1 .0 (s .args .id) (s .pre .1 .1 .1 .0 .below) (s .pre .1 .1 .1 .0 .general) in
     (g .muls, g .left-sorted)
 
--- src/lib.rt:153:5
 pairs-loop-holds : (t : ℕ) → pairs-lts.Need-loop-holds (pairs-calls t) (pairs-at t) pairs.Post pairs-Inv-loop pairs-μ-loop
 pairs-loop-holds t c = let s = c .before .before .before .before in
     let g = s .pre .1 .1 .0 (s .args .id) (s .pre .1 .1 .1 .0 .below) (s .pre .1 .1 .1 .0 .general) in
     (s .pre .1 .0, refl, refl, refl, λ f h. pairs-start f (s .args .nodes .now) (s .args .inputs .now) (s .args .keys .now) (s .args .id) (s .args .at) (s .args .v) (c .window .result) (state (s .args .lits .now) (s .args .marks .now) (s .args .row .now) (s .args .run)) (c .window .ensures) (g .right-sorted))
 
--- src/lib.rt:154:13
 pairs-way-at-requires : (t : ℕ) → pairs-lts.Need-way-at-requires (pairs-calls t) (pairs-at t) pairs.Post pairs-Inv-loop pairs-μ-loop
 pairs-way-at-requires t c κs = let s = c .before .before .before .before .before .before in
     let g = s .pre .1 .1 .0 (s .args .id) (s .pre .1 .1 .1 .0 .below) (s .pre .1 .1 .1 .0 .general) in
     (g .muls, (g .left-sorted, g .right-sorted))
 
--- src/lib.rt:155:9
 pairs-link-requires : (t : ℕ) → pairs-lts.Need-link-requires (pairs-calls t) (pairs-at t) pairs.Post pairs-Inv-loop pairs-μ-loop
 pairs-link-requires t c κs = let s = c .before .before .before .before .before .before .before .before .before .before in
     let l = c .before .before .before .before .before .loop in
@@ -364,17 +341,14 @@ pairs-link-requires t c κs = let s = c .before .before .before .before .before 
       ),
     )
 
--- src/lib.rt:156:9
 pairs-add-k : (t : ℕ) → pairs-lts.Need-add-k (pairs-calls t) (pairs-at t) pairs.Post pairs-Inv-loop pairs-μ-loop
 pairs-add-k t c = let s = c .before .before .before .before .before .before .before .before .before .before .before .before .before .before .before in
     let g = s .pre .1 .1 .0 (s .args .id) (s .pre .1 .1 .1 .0 .below) (s .pre .1 .1 .1 .0 .general) in
     omega (arith, c .before .before .before .before .before .before .before .before .before .loop-test .taken, c .before .before .before .before .before .before .before .before .before .before .before .window .ensures .high .inside, g .few)
 
--- src/lib.rt:153:5
 pairs-loop-less : (t : ℕ) → pairs-lts.Need-loop-less (pairs-calls t) (pairs-at t) pairs.Post pairs-Inv-loop pairs-μ-loop
 pairs-loop-less t c = omega (arith, c .before .before .before .before .before .before .before .before .before .loop-test .taken)
 
--- src/lib.rt:153:5
 pairs-loop-again : (t : ℕ) → pairs-lts.Need-loop-again (pairs-calls t) (pairs-at t) pairs.Post pairs-Inv-loop pairs-μ-loop
 pairs-loop-again t c = let s = c .before .before .before .before .before .before .before .before .before .before .before .before .before .before .before in
     let l = c .before .before .before .before .before .before .before .before .before .before .loop in
@@ -387,39 +361,31 @@ pairs-loop-again t c = let s = c .before .before .before .before .before .before
           (d .ensures .is f h ∙ ap (λ (p : Way). linkOf lay (weigh lay f (s .args .nodes .now) (s .args .inputs .now) (s .args .keys .now)) (s .args .nodes .now) (s .args .inputs .now) (s .args .id) (s .args .at) p (state (l .lits) (l .marks) (l .row) (l .r))) (c .before .before .before .before .before .before .before .before .way-at .ensures)) (l .inv .4 f h),
     )
 
--- src/lib.rt:129:1
 pairs-same-length : (t : ℕ) → pairs-lts.Need-same-length (pairs-calls t) (pairs-at t) pairs.Post pairs-Inv-loop pairs-μ-loop
 pairs-same-length t c = c .before .loop .inv .1
 
--- src/lib.rt:129:1
 pairs-same-length-2 : (t : ℕ) → pairs-lts.Need-same-length-2 (pairs-calls t) (pairs-at t) pairs.Post pairs-Inv-loop pairs-μ-loop
 pairs-same-length-2 t c = c .before .loop .inv .2
 
--- src/lib.rt:129:1
 pairs-same-length-3 : (t : ℕ) → pairs-lts.Need-same-length-3 (pairs-calls t) (pairs-at t) pairs.Post pairs-Inv-loop pairs-μ-loop
 pairs-same-length-3 t c = c .before .loop .inv .3
 
--- src/lib.rt:129:1
 pairs-returns : (t : ℕ) → pairs-lts.Need-returns (pairs-calls t) (pairs-at t) pairs.Post pairs-Inv-loop pairs-μ-loop
 pairs-returns t c = let s = c .before .before .before .before .before .before in
     let l = c .before .loop in
     record { is = λ f h. span-end (l .k) _ (each f (s .args .nodes .now) (s .args .inputs .now) (s .args .keys .now) (s .args .id) (s .args .at) (s .args .v)) (state (l .lits) (l .marks) (l .row) (l .r)) _ (c .loop-test .left) (l .inv .4 f h); fit = l .inv .0 }
 
--- src/lib.rt:76:9
 weigh-job-at-requires : (t : ℕ) → weigh-lts.Need-job-at-requires (weigh-calls t) (weigh-at t) weigh.Post
 weigh-job-at-requires t c κs = let s = c .before .before .before .before in
     let b = s .pre .1 .1 .1 .0 in
     rw (s .pre .1 .0 .same) (place-at (s .args .nodes .now) _ _ (s .args .id) (s .pre .1 .0 .ok) (b .below) (s .args .y) (b .out))
 
--- src/lib.rt:78:25
 weigh-enum-told : (t : ℕ) → weigh-lts.Need-enum-told (weigh-calls t) (weigh-at t) weigh.Post
 weigh-enum-told t c = search needs
 
--- src/lib.rt:79:20
 weigh-enum-known-j : (t : ℕ) → weigh-lts.Need-enum-known-j (weigh-calls t) (weigh-at t) weigh.Post
 weigh-enum-known-j t c = search needs
 
--- src/lib.rt:84:13
 weigh-define-unweighted-rec-requires : (t : ℕ) → weigh-lts.Need-define-unweighted-rec-requires (weigh-calls t) (weigh-at t) weigh.Post
 weigh-define-unweighted-rec-requires t c κs = let s = c .before .before .before .before .before .before .before .before .before .before .before in
     let z = s .pre .1 .1 .1 .1 in
@@ -434,11 +400,9 @@ weigh-define-unweighted-rec-requires t c κs = let s = c .before .before .before
       ),
     )
 
--- src/lib.rt:86:18
 weigh-enum-known-j-2 : (t : ℕ) → weigh-lts.Need-enum-known-j-2 (weigh-calls t) (weigh-at t) weigh.Post
 weigh-enum-known-j-2 t c = search needs
 
--- src/lib.rt:92:17
 weigh-links-requires : (t : ℕ) → weigh-lts.Need-links-requires (weigh-calls t) (weigh-at t) weigh.Post
 weigh-links-requires t c κs = let s = c .before .before .before .before .before .before .before .before .before .before .before .before .before .before in
     let z = s .pre .1 .1 .1 .1 in
@@ -447,14 +411,12 @@ weigh-links-requires t c κs = let s = c .before .before .before .before .before
     _ _ (c .before .before .before .before .take-lit .ensures .0) (c .before .before .before .before .take-lit .ensures .1) (c .before .before .before .before .take-lit .kept .0) in
     (omega (arith, s .pre .0), (a .0, (s .pre .1 .1 .0, (a .1, a .2))))
 
--- src/lib.rt:87:17
 weigh-take-lit-requires : (t : ℕ) → weigh-lts.Need-take-lit-requires (weigh-calls t) (weigh-at t) weigh.Post
 weigh-take-lit-requires t c κs = let s = c .before .before .before .before .before .before .before .before .before in
     let z = s .pre .1 .1 .1 .1 in
     let e = sym (c .before .before .before .before .job-at .ensures) ∙ c .before .before .j2 .given .1 in
     take-asks (s .args .nodes .now) (s .args .inputs .now) (s .args .keys .now) (s .args .id) (s .args .y) (s .args .lits .now) (s .args .marks .now) (s .args .row .now) (s .args .run) (s .pre .1 .0) (s .pre .1 .1 .1 .0) _ _ e (z .fuel) (z .enough) (z .within)
 
--- src/lib.rt:93:13
 weigh-slice-write-marks : (t : ℕ) → weigh-lts.Need-slice-write-marks (weigh-calls t) (weigh-at t) weigh.Post
 weigh-slice-write-marks t c = let s = c .before .before .before .before .before .before .before .before .before .before .before .before .before .before .before .before .before .before .before in
     let z = s .pre .1 .1 .1 .1 in
@@ -464,47 +426,37 @@ weigh-slice-write-marks t c = let s = c .before .before .before .before .before 
     let k = sum-ok (s .args .nodes .now) (s .args .keys .now) (s .args .marks .now) _ (s .args .id) (s .args .y) here _ _ e in
     omega (arith, k .1, s .pre .1 .0 .same, c .before .before .before .before .links .kept .1 .1 .1 .1 .0)
 
--- src/lib.rt:57:1
 weigh-same-length : (t : ℕ) → weigh-lts.Need-same-length (weigh-calls t) (weigh-at t) weigh.Post
 weigh-same-length t c = search needs
 
--- src/lib.rt:57:1
 weigh-returns : (t : ℕ) → weigh-lts.Need-returns (weigh-calls t) (weigh-at t) weigh.Post
 weigh-returns t c = let s = c .before .before .before .before .before .before .before in
     record { is = nothing-is (s .args .nodes .now) (s .args .inputs .now) (s .args .keys .now) (s .args .id) (s .args .y) (state (s .args .lits .now) (s .args .marks .now) (s .args .row .now) (s .args .run)) (sym (c .before .before .job-at .ensures) ∙ c .enum-told .given .1); fit = s .pre .1 .0 }
 
--- src/lib.rt:57:1
 weigh-same-length-2 : (t : ℕ) → weigh-lts.Need-same-length-2 (weigh-calls t) (weigh-at t) weigh.Post
 weigh-same-length-2 t c = c .before .before .before .before .define-unweighted-rec .kept .1 .1 .0
 
--- src/lib.rt:57:1
 weigh-same-length-3 : (t : ℕ) → weigh-lts.Need-same-length-3 (weigh-calls t) (weigh-at t) weigh.Post
 weigh-same-length-3 t c = c .before .before .before .before .define-unweighted-rec .kept .1 .1 .1 .0
 
--- src/lib.rt:57:1
 weigh-same-length-4 : (t : ℕ) → weigh-lts.Need-same-length-4 (weigh-calls t) (weigh-at t) weigh.Post
 weigh-same-length-4 t c = c .before .before .before .before .define-unweighted-rec .kept .1 .1 .1 .1 .0
 
--- src/lib.rt:57:1
 weigh-returns-2 : (t : ℕ) → weigh-lts.Need-returns-2 (weigh-calls t) (weigh-at t) weigh.Post
 weigh-returns-2 t c = let s = c .before .before .before .before .before .before .before .before .before .before .before .before .before .before .before .before in
     let d = c .before .before .before .before .define-unweighted-rec in
     let e = sym (c .before .before .before .before .before .before .before .before .before .before .before .job-at .ensures) ∙ c .before .before .before .before .before .before .before .before .before .j .given .1 in
     record { is = λ f h. d .ensures .is f h ∙ count-is (s .args .nodes .now) (s .args .inputs .now) (s .args .keys .now) (s .args .id) (s .args .y) (state (s .args .lits .now) (s .args .marks .now) (s .args .row .now) (s .args .run)) _ e f h; fit = d .ensures .fit }
 
--- src/lib.rt:57:1
 weigh-same-length-5 : (t : ℕ) → weigh-lts.Need-same-length-5 (weigh-calls t) (weigh-at t) weigh.Post
 weigh-same-length-5 t c = c .before .before .before .before .links .kept .1 .1 .1 .0 ∙ c .before .before .before .before .before .before .before .before .before .take-lit .kept .0
 
--- src/lib.rt:57:1
 weigh-same-length-6 : (t : ℕ) → weigh-lts.Need-same-length-6 (weigh-calls t) (weigh-at t) weigh.Post
 weigh-same-length-6 t c = search needs
 
--- src/lib.rt:57:1
 weigh-same-length-7 : (t : ℕ) → weigh-lts.Need-same-length-7 (weigh-calls t) (weigh-at t) weigh.Post
 weigh-same-length-7 t c = c .before .before .before .before .links .kept .1 .1 .1 .1 .1 .0
 
--- src/lib.rt:57:1
 weigh-returns-3 : (t : ℕ) → weigh-lts.Need-returns-3 (weigh-calls t) (weigh-at t) weigh.Post
 weigh-returns-3 t c = let s = c .before .before .before .before .before .before .before .before .before .before .before .before .before .before .before .before .before .before .before in
     let e = sym (c .before .before .before .before .before .before .before .before .before .before .before .before .before .before .job-at .ensures) ∙ c .before .before .before .before .before .before .before .before .before .before .before .before .j2 .given .1 in

@@ -16,34 +16,27 @@ use Rattle.clause.proofs.append.Reads as append-reads
 use Rattle.clause.proofs.if_clause.Reads as if-clause-reads
 use Rattle.count.proofs.con_lits.Reads as con-lits-reads
 
--- src/lib.rt:45:8
 add-if1 : tie.Need-add-if1
 add-if1 c = let s = c .before .before in
     let g = s .pre .0 in
     omega (arith, g .x, g .y, outs-few (s .args .nodes .now) _ _ (s .args .left) (g .ok) (g .left-below), outs-few (s .args .nodes .now) _ _ (s .args .right) (g .ok) (g .right-below), s .good)
 
--- src/lib.rt:46:9
 returns : tie.Need-returns
 returns c = let s = c .before .before .before in
     record { is = sym (way-none _ _ (s .args .p) _ _ (c .if1 .taken)); counted = s .pre .1 }
 
--- src/lib.rt:48:9
 con-lits-requires : tie.Need-con-lits-requires
 con-lits-requires c κs = let g = c .before .before .before .pre .0 in (g .left-below, g .ok)
 
--- src/lib.rt:49:9
 con-lits-requires-2 : tie.Need-con-lits-requires-2
 con-lits-requires-2 c κs = let g = c .before .before .before .before .pre .0 in (g .right-below, g .ok)
 
--- src/lib.rt:50:13
 mul-o : tie.Need-mul-o
 mul-o c = search needs
 
--- src/lib.rt:50:13
 shared-slice-copy-out-o : tie.Need-shared-slice-copy-out-o
 shared-slice-copy-out-o c = search needs
 
--- src/lib.rt:51:9
 if-clause-requires : tie.Need-if-clause-requires
 if-clause-requires c κs = let s = c .before .before .before .before .before .before in
     let g = s .pre .0 in
@@ -56,15 +49,12 @@ if-clause-requires c κs = let s = c .before .before .before .before .before .be
       ),
     )
 
--- src/lib.rt:52:5
 append-requires : tie.Need-append-requires
 append-requires c κs = (c .before .before .before .before .before .before .before .before .pre .1, rw (c .before .if-clause .ensures) (if-len _ _ _ _ _))
 
--- src/lib.rt:27:1
 same-length : tie.Need-same-length
 same-length c = search needs
 
--- src/lib.rt:27:1
 returns-2 : tie.Need-returns-2
 returns-2 c = let s = c .before .before .before .before .before .before .before .before .before .before in
     let a = c .before .append in

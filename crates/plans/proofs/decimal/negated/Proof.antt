@@ -12,27 +12,21 @@ use Rattle.plans.proofs.decimal.negated.Tie as tie
 use Rattle.plans.proofs.decimal.negated.Reads as reads
 use Rattle.plans.proofs.decimal.negated.Lts as lts
 
--- src/decimal.rt:72:20
 enum-known-n : tie.Need-enum-known-n
 enum-known-n c = search needs
 
--- src/decimal.rt:73:9
 enum-told : tie.Need-enum-told
 enum-told c = search needs
 
--- src/decimal.rt:73:9
 returns : tie.Need-returns
 returns c = search needs
 
--- src/decimal.rt:76:9
 returns-2 : tie.Need-returns-2
 returns-2 c = search needs
 
--- src/decimal.rt:79:9
 returns-3 : tie.Need-returns-3
 returns-3 c = search needs
 
--- src/decimal.rt:81:21
 cast-t4 : tie.Need-cast-t4
 cast-t4 c = search needs
 
@@ -48,7 +42,6 @@ minus n h =
 sub-t5 : tie.Need-sub-t5
 sub-t5 c = minus (c .before .before .before .n .given .0 .0) (omega arith)
 
--- src/decimal.rt:71:1
 returns-4 : tie.Need-returns-4
 returns-4 c = search needs
 

@@ -14,55 +14,42 @@ Inv-loop s n v₀ i₀ v i = (i ≤ n) × (n ≡ length s)
 abbrev μ-loop : tie.MeasureT-loop
 μ-loop s n v₀ i₀ v i = n - i
 
--- src/decimal.rt:30:9
 returns : tie.Need-returns Inv-loop μ-loop
 returns c = tt
 
--- src/decimal.rt:34:5
 loop-holds : tie.Need-loop-holds Inv-loop μ-loop
 loop-holds c = omega arith
 
--- src/decimal.rt:35:23
 shared-slice-read-digit : tie.Need-shared-slice-read-digit Inv-loop μ-loop
 shared-slice-read-digit c = omega arith
 
--- src/decimal.rt:35:13
 digit-requires : tie.Need-digit-requires Inv-loop μ-loop
 digit-requires c κs = tt
 
--- src/decimal.rt:37:13
 returns-2 : tie.Need-returns-2 Inv-loop μ-loop
 returns-2 c = tt
 
--- src/decimal.rt:39:17
 sub-if3 : tie.Need-sub-if3 Inv-loop μ-loop
 sub-if3 c = omega arith
 
--- src/decimal.rt:40:13
 returns-3 : tie.Need-returns-3 Inv-loop μ-loop
 returns-3 c = tt
 
--- src/decimal.rt:42:13
 mul-v : tie.Need-mul-v Inv-loop μ-loop
 mul-v c = omega arith
 
--- src/decimal.rt:42:13
 add-v : tie.Need-add-v Inv-loop μ-loop
 add-v c = omega arith
 
--- src/decimal.rt:43:9
 add-i : tie.Need-add-i Inv-loop μ-loop
 add-i c = omega arith
 
--- src/decimal.rt:34:5
 loop-less : tie.Need-loop-less Inv-loop μ-loop
 loop-less c = omega arith
 
--- src/decimal.rt:34:5
 loop-again : tie.Need-loop-again Inv-loop μ-loop
 loop-again c = omega arith
 
--- src/decimal.rt:27:1
 returns-4 : tie.Need-returns-4 Inv-loop μ-loop
 returns-4 c = tt
 

@@ -14,47 +14,36 @@ Inv-loop read₀ line₀ s₀ turns₀ read line s turns = (length read ≡ leng
 abbrev μ-loop : tie.MeasureT-loop
 μ-loop read₀ line₀ s₀ turns₀ read line s turns = turns
 
--- src/bytes_in.rt:84:5
 loop-holds : tie.Need-loop-holds Inv-loop μ-loop
 loop-holds c = search needs
 
--- src/bytes_in.rt:85:9
 step-requires : tie.Need-step-requires Inv-loop μ-loop
 step-requires c κs = tt
 
--- src/bytes_in.rt:87:13
 same-length : tie.Need-same-length Inv-loop μ-loop
 same-length c = search needs
 
--- src/bytes_in.rt:87:13
 same-length-2 : tie.Need-same-length-2 Inv-loop μ-loop
 same-length-2 c = search needs
 
--- src/bytes_in.rt:87:13
 returns : tie.Need-returns Inv-loop μ-loop
 returns c = tt
 
--- src/bytes_in.rt:89:9
 sub-turns : tie.Need-sub-turns Inv-loop μ-loop
 sub-turns c = search needs
 
--- src/bytes_in.rt:84:5
 loop-less : tie.Need-loop-less Inv-loop μ-loop
 loop-less c = search needs
 
--- src/bytes_in.rt:84:5
 loop-again : tie.Need-loop-again Inv-loop μ-loop
 loop-again c = search needs
 
--- src/bytes_in.rt:75:1
 same-length-3 : tie.Need-same-length-3 Inv-loop μ-loop
 same-length-3 c = search needs
 
--- src/bytes_in.rt:75:1
 same-length-4 : tie.Need-same-length-4 Inv-loop μ-loop
 same-length-4 c = search needs
 
--- src/bytes_in.rt:75:1
 returns-2 : tie.Need-returns-2 Inv-loop μ-loop
 returns-2 c = tt
 

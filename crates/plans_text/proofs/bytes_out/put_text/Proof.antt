@@ -15,35 +15,27 @@ Inv-loop out₀ at s now₀ i₀ out now i = (i ≤ length s) × (length out ≡
 abbrev μ-loop : tie.MeasureT-loop
 μ-loop out₀ at s now₀ i₀ out now i = length s - i
 
--- src/bytes_out.rt:27:5
 loop-holds : tie.Need-loop-holds Inv-loop μ-loop
 loop-holds c = search needs
 
--- src/bytes_out.rt:28:29
 shared-slice-read-put : tie.Need-shared-slice-read-put Inv-loop μ-loop
 shared-slice-read-put c = omega arith
 
--- src/bytes_out.rt:28:9
 put-requires : tie.Need-put-requires Inv-loop μ-loop
 put-requires c κs = tt
 
--- src/bytes_out.rt:29:9
 add-i : tie.Need-add-i Inv-loop μ-loop
 add-i c = omega arith
 
--- src/bytes_out.rt:27:5
 loop-less : tie.Need-loop-less Inv-loop μ-loop
 loop-less c = omega arith
 
--- src/bytes_out.rt:27:5
 loop-again : tie.Need-loop-again Inv-loop μ-loop
 loop-again c = search needs
 
--- src/bytes_out.rt:24:1
 same-length : tie.Need-same-length Inv-loop μ-loop
 same-length c = search needs
 
--- src/bytes_out.rt:24:1
 returns : tie.Need-returns Inv-loop μ-loop
 returns c = tt
 

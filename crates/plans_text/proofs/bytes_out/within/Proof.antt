@@ -7,11 +7,9 @@ use Rattle.plans_text.proofs.bytes_out.within.Tie as tie
 use Rattle.plans_text.proofs.bytes_out.within.Reads as reads
 use Rattle.plans_text.proofs.bytes_out.within.Lts as lts
 
--- src/bytes_out.rt:20:1
 returns : tie.Need-returns
 returns c = (omega arith, sym (length-take-le _ _ (omega arith)))
 
--- src/bytes_out.rt:20:1
 returns-2 : tie.Need-returns-2
 returns-2 c = (omega arith, sym (length-take-le _ _ (omega arith)))
 

@@ -21,87 +21,66 @@ Inv-loop out₀ at keys lits marks first count room end now₀ i₀ out now i = 
 abbrev μ-loop : tie.MeasureT-loop
 μ-loop out₀ at keys lits marks first count room end now₀ i₀ out now i = end - i
 
--- src/lines.rt:79:36
 smaller-requires : tie.Need-smaller-requires Inv-loop μ-loop
 smaller-requires c κs = tt
 
--- src/lines.rt:79:9
 smaller-requires-2 : tie.Need-smaller-requires-2 Inv-loop μ-loop
 smaller-requires-2 c κs = tt
 
--- src/lines.rt:80:9
 cells-end-requires : tie.Need-cells-end-requires Inv-loop μ-loop
 cells-end-requires c κs = tt
 
--- src/lines.rt:83:5
 loop-holds : tie.Need-loop-holds Inv-loop μ-loop
 loop-holds c = search needs
 
--- src/lines.rt:84:45
 mul-wide : tie.Need-mul-wide Inv-loop μ-loop
 mul-wide c = search needs
 
--- src/lines.rt:84:45
 shared-slice-read-wide : tie.Need-shared-slice-read-wide Inv-loop μ-loop
 shared-slice-read-wide c = search needs
 
--- src/lines.rt:84:34
 wide-requires : tie.Need-wide-requires Inv-loop μ-loop
 wide-requires c κs = tt
 
--- src/lines.rt:84:9
 put-next-requires : tie.Need-put-next-requires Inv-loop μ-loop
 put-next-requires c κs = tt
 
--- src/lines.rt:85:9
 put-requires : tie.Need-put-requires Inv-loop μ-loop
 put-requires c κs = tt
 
--- src/lines.rt:86:33
 mul-put-int : tie.Need-mul-put-int Inv-loop μ-loop
 mul-put-int c = search needs
 
--- src/lines.rt:86:33
 shared-slice-copy-out-put-int : tie.Need-shared-slice-copy-out-put-int Inv-loop μ-loop
 shared-slice-copy-out-put-int c = search needs
 
--- src/lines.rt:86:9
 put-int-requires : tie.Need-put-int-requires Inv-loop μ-loop
 put-int-requires c κs = tt
 
--- src/lines.rt:87:9
 put-requires-2 : tie.Need-put-requires-2 Inv-loop μ-loop
 put-requires-2 c κs = tt
 
--- src/lines.rt:88:41
 shared-slice-read-wide-2 : tie.Need-shared-slice-read-wide-2 Inv-loop μ-loop
 shared-slice-read-wide-2 c = search needs
 
--- src/lines.rt:88:36
 wide-requires-2 : tie.Need-wide-requires-2 Inv-loop μ-loop
 wide-requires-2 c κs = tt
 
--- src/lines.rt:88:9
 put-number-requires : tie.Need-put-number-requires Inv-loop μ-loop
 put-number-requires c κs = tt
 
--- src/lines.rt:89:9
 add-i : tie.Need-add-i Inv-loop μ-loop
 add-i c = search needs
 
--- src/lines.rt:83:5
 loop-less : tie.Need-loop-less Inv-loop μ-loop
 loop-less c = search needs
 
--- src/lines.rt:83:5
 loop-again : tie.Need-loop-again Inv-loop μ-loop
 loop-again c = search needs
 
--- src/lines.rt:70:1
 same-length : tie.Need-same-length Inv-loop μ-loop
 same-length c = search needs
 
--- src/lines.rt:70:1
 returns : tie.Need-returns Inv-loop μ-loop
 returns c = tt
 

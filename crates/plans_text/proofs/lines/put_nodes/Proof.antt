@@ -19,51 +19,39 @@ Inv-loop out₀ at nodes inputs keys lits marks c n now₀ i₀ out now i = leng
 abbrev μ-loop : tie.MeasureT-loop
 μ-loop out₀ at nodes inputs keys lits marks c n now₀ i₀ out now i = n - i
 
--- src/lines.rt:168:9
 smaller-requires : tie.Need-smaller-requires Inv-loop μ-loop
 smaller-requires c κs = tt
 
--- src/lines.rt:169:9
 put-requires : tie.Need-put-requires Inv-loop μ-loop
 put-requires c κs = tt
 
--- src/lines.rt:171:5
 loop-holds : tie.Need-loop-holds Inv-loop μ-loop
 loop-holds c = search needs
 
--- src/lines.rt:172:9
 put-id-requires : tie.Need-put-id-requires Inv-loop μ-loop
 put-id-requires c κs = tt
 
--- src/lines.rt:173:61
 node-at-requires : tie.Need-node-at-requires Inv-loop μ-loop
 node-at-requires c κs = tt
 
--- src/lines.rt:173:9
 put-node-requires : tie.Need-put-node-requires Inv-loop μ-loop
 put-node-requires c κs = tt
 
--- src/lines.rt:174:9
 add-i : tie.Need-add-i Inv-loop μ-loop
 add-i c = search needs
 
--- src/lines.rt:171:5
 loop-less : tie.Need-loop-less Inv-loop μ-loop
 loop-less c = search needs
 
--- src/lines.rt:171:5
 loop-again : tie.Need-loop-again Inv-loop μ-loop
 loop-again c = search needs
 
--- src/lines.rt:176:5
 put-rest-requires : tie.Need-put-rest-requires Inv-loop μ-loop
 put-rest-requires c κs = tt
 
--- src/lines.rt:158:1
 same-length : tie.Need-same-length Inv-loop μ-loop
 same-length c = search needs
 
--- src/lines.rt:158:1
 returns : tie.Need-returns Inv-loop μ-loop
 returns c = tt
 

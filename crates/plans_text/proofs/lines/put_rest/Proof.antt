@@ -18,71 +18,54 @@ Inv-loop out₀ at clauses from to next now₀ end i₀ t11 out now i = (end ≤
 abbrev μ-loop : tie.MeasureT-loop
 μ-loop out₀ at clauses from to next now₀ end i₀ t11 out now i = end - i
 
--- src/lines.rt:27:37
 slice-aggregate-put-text : tie.Need-slice-aggregate-put-text Inv-loop μ-loop
 slice-aggregate-put-text c = search needs
 
--- src/lines.rt:27:9
 put-text-requires : tie.Need-put-text-requires Inv-loop μ-loop
 put-text-requires c κs = tt
 
--- src/lines.rt:28:9
 smaller-requires : tie.Need-smaller-requires Inv-loop μ-loop
 smaller-requires c κs = tt
 
--- src/lines.rt:30:5
 loop-holds : tie.Need-loop-holds Inv-loop μ-loop
 loop-holds c = search needs
 
--- src/lines.rt:31:9
 put-requires : tie.Need-put-requires Inv-loop μ-loop
 put-requires c κs = tt
 
--- src/lines.rt:32:33
 mul-put-int : tie.Need-mul-put-int Inv-loop μ-loop
 mul-put-int c = search needs
 
--- src/lines.rt:32:33
 shared-slice-copy-out-put-int : tie.Need-shared-slice-copy-out-put-int Inv-loop μ-loop
 shared-slice-copy-out-put-int c = search needs
 
--- src/lines.rt:32:9
 put-int-requires : tie.Need-put-int-requires Inv-loop μ-loop
 put-int-requires c κs = tt
 
--- src/lines.rt:33:9
 add-i : tie.Need-add-i Inv-loop μ-loop
 add-i c = search needs
 
--- src/lines.rt:30:5
 loop-less : tie.Need-loop-less Inv-loop μ-loop
 loop-less c = search needs
 
--- src/lines.rt:30:5
 loop-again : tie.Need-loop-again Inv-loop μ-loop
 loop-again c = search needs
 
--- src/lines.rt:35:30
 slice-aggregate-put-text-2 : tie.Need-slice-aggregate-put-text-2 Inv-loop μ-loop
 slice-aggregate-put-text-2 c = search needs
 
--- src/lines.rt:35:5
 put-text-requires-2 : tie.Need-put-text-requires-2 Inv-loop μ-loop
 put-text-requires-2 c κs = tt
 
--- src/lines.rt:36:5
 put-next-requires : tie.Need-put-next-requires Inv-loop μ-loop
 put-next-requires c κs = tt
 
--- src/lines.rt:37:5
 put-requires-2 : tie.Need-put-requires-2 Inv-loop μ-loop
 put-requires-2 c κs = tt
 
--- src/lines.rt:19:1
 same-length : tie.Need-same-length Inv-loop μ-loop
 same-length c = search needs
 
--- src/lines.rt:19:1
 returns : tie.Need-returns Inv-loop μ-loop
 returns c = tt
 
