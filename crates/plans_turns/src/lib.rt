@@ -272,13 +272,14 @@ fn turns(
 
 // The lines of standard input, and an answer for each on standard output; `beside` has each line stand before its answer.
 // These rows are the program's own. Before the first `rows` or `fresh` they have their own lengths, and the counters are 0.
+// The clause row is an array here: as a slice, its length would be a fact for the program to prove.
 pub fn play(
     nodes: &mut [u32],
     inputs: &mut [i32],
     keys: &mut [u32],
     lits: &mut [i32],
     marks: &mut [u8],
-    clauses: &mut [i32],
+    clauses: &mut [i32; 1048576],
     ints: &mut [i32],
     bytes: &mut [u8],
     beside: bool,
