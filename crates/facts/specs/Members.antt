@@ -40,6 +40,7 @@ put_in x [] = here
 put_in x (y ∷ ys) = three x y (λ l. rw (put_less x y ys l) here) (λ e. rw (put_same x y ys e, e) here) (λ l. rw (put_more x y ys l) (there (put_in x ys)))
 
 pub put_keeps : (x y : ℕ) (s : List ℕ) → In y s → In y (put x s)
+put_keeps x y [] i = elim i [ ]
 put_keeps x y (z ∷ zs) here = three x y (λ l. rw (put_less x y zs l) (there here)) (λ e. rw (put_same x y zs e) here) (λ l. rw (put_more x y zs l) here)
 put_keeps x y (z ∷ zs) (there i) = three x z (λ l. rw (put_less x z zs l) (there (there i))) (λ e. rw (put_same x z zs e) (there i)) (λ l. rw (put_more x z zs l) (there (put_keeps x y zs i)))
 
@@ -134,6 +135,7 @@ keys_only (suc n) l nr r y h =
 
 -- by index
 pub in_at : (y : ℕ) (s : List ℕ) → In y s → (i : ℕ) × (i < length s) × (get_or s i 0 ≡ y)
+in_at y [] i = elim i [ ]
 in_at y (x ∷ s) here = (0, omega arith, refl)
 in_at y (x ∷ s) (there i) = let w = in_at y s i in (suc w.0, omega (arith, w.1), w.2)
 

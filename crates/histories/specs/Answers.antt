@@ -198,7 +198,7 @@ module _ (d : Db) (h : History) (u : Upheld d h) where
           let dn : Done (Rattle.meaning.specs.Rows.tab_of (used d h u) (through (λ (k : History). h ++ k) (weighed d h u n y))) (Rattle.meaning.specs.Rows.marks_of (used d h u) (through (λ (k : History). h ++ k) (weighed d h u n y))) If n q
           = subst (AtPrev (Done (Rattle.meaning.specs.Rows.tab_of (used d h u) (through (λ (k : History). h ++ k) (weighed d h u n y))) (Rattle.meaning.specs.Rows.marks_of (used d h u) (through (λ (k : History). h ++ k) (weighed d h u n y))) If n)) ey x.done in
           let an = answer n q s kind hq just_if p (weighed d h u n y) (weigh_words d h u n y) x.good.lits_len x.good.marks_len
-          (λ e2. elim e2 [ If ↦ λ f. dn | OnlyIf ↦ λ f. absurd (false≢true f) ]) in
+          (λ e2. elim e2 as (λ k. wants k just_if ≡ true → Done (Rattle.meaning.specs.Rows.tab_of (used d h u) (through (λ (k : History). h ++ k) (weighed d h u n y))) (Rattle.meaning.specs.Rows.marks_of (used d h u) (through (λ (k : History). h ++ k) (weighed d h u n y))) k n q) [ If ↦ λ f. dn | OnlyIf ↦ λ f. absurd (false≢true f) ]) in
           record {
             index = q;
             low = omega (arith, count s);

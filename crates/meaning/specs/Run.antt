@@ -286,7 +286,7 @@ module _ (ns : List ℕ) (ins : List ℤ) (keys : List ℕ) (size from len : ℕ
             good = w₄.good;
             grow = grow_trans g σ σ₁ σ₄ w₁.grow g₁;
             still = still_trans g n σ σ₁ σ₄ w₁.still (still_trans g n σ₁ σ₂ σ₄ w₂.still (still_trans g n σ₂ σ₃ σ₄ w₃.still w₄.still));
-            needs = λ d. elim d [
+            needs = λ d. elim d as (λ k. wants k w ≡ true → Needs (tab_of g σ₄) (marks_of g σ₄) k n i) [
               | If ↦ λ e. record {
                 lneed = λ p h. still_done g σ₁ σ₄ σ₄ g₁ If l p (omega (arith, o.hl)) h.inside (w₁.done e p h);
                 rneed = λ p h. still_done g σ₂ σ₄ σ₄ g₂ If q p (omega (arith, o.hr)) h.inside (w₂.done e p h);
@@ -343,7 +343,7 @@ module _ (ns : List ℕ) (ins : List ℤ) (keys : List ℕ) (size from len : ℕ
                 good = good;
                 grow = grow_refl g σ;
                 still = still_refl g (suc n) σ;
-                done = λ d. elim d [ If ↦ there If e | OnlyIf ↦ there OnlyIf f ];
+                done = λ d. elim d as (λ k. wants k w ≡ true → Done (tab_of g σ) (marks_of g σ) k n i) [ If ↦ there If e | OnlyIf ↦ there OnlyIf f ];
               }
 
   -- THE DEMAND keeps the invariant, and what was asked is done
