@@ -24,7 +24,7 @@ use Rattle.paper.specs.Plain.{lit_at, has_none, taken_lits, taken_next, St, emit
 use Rattle.count.specs.Run.{state}
 use Rattle.clause.specs.Row.{Row, at_row, lay}
 use Rattle.count.proofs.Plan.{outs_unit, outs_dummy, cells_in, left_in, right_in}
-use Rattle.facts.specs.Ranges.{span_to, if_to, only_to}
+use Rattle.facts.proofs.Ranges.{span_to, if_to, only_to}
 use Rattle.paper.specs.Limits.{node_words}
 use Rattle.paper.specs.declared.Node.{Node}
 use Rattle.paper.specs.declared.Run.{Run}

@@ -17,10 +17,13 @@ use Rattle.paper.specs.declared.Counters.{Counters}
 use Rattle.paper.specs.declared.Refusal.TheVariants.{NoSuchOutput, TableFails, WorkShort, NoSuchNode, GeneralNode}
 use Rattle.paper.specs.declared.Demanded.{Demanded}
 use Rattle.paper.specs.declared.Demanded.TheVariants.{NotGiven}
-use Rattle.facts.specs.Facts.{TableFacts, table_facts, used_length, words_fit}
+use Rattle.facts.specs.Facts.{TableFacts}
+use Rattle.facts.proofs.Facts.{table_facts, used_length, words_fit}
 use Rattle.count.specs.Run.{Fit, Here}
-use Rattle.runs.specs.Met.{Met, is_2, is_3, is_4, is_5, is_1, is_room}
-use Rattle.runs.specs.Used.{run_of, fit_of, nodes_length, same_node, back, work_long}
+use Rattle.runs.specs.Met.{Met}
+use Rattle.runs.proofs.Met.{is_2, is_3, is_4, is_5, is_1, is_room}
+use Rattle.runs.specs.Used.{run_of}
+use Rattle.runs.proofs.Used.{fit_of, nodes_length, same_node, back, work_long}
 
 module _ (nodes : List ℕ) (inputs : List ℤ) (keys : List ℕ) (lits : List ℤ) (marks : List ℕ) (row : List ℤ) (ints bytes : ℕ) (c : Counters) (id i : ℕ) where
   abbrev Checked : Bool → Type 0

@@ -16,8 +16,10 @@ use Rattle.paper.specs.Rows.{con_len, con_val, value_at}
 use Rattle.paper.specs.Keys.{put_all, keys_of, node_keys}
 use Rattle.paper.specs.Join.{within_limit}
 use Rattle.paper.specs.declared.Node.{Node}
-use Rattle.facts.specs.Facts.{NodeFacts, a_leaf, a_dummy, a_unit, a_general, dummy_outputs, unit_outputs, general_outputs}
-use Rattle.facts.specs.Members.{In, KeyIs, from_right, from_left, from_sum, right_in, left_in, sum_in, keys_only, in_at, at_in, key_ascend}
+use Rattle.facts.specs.Facts.{NodeFacts, a_leaf, a_dummy, a_unit, a_general}
+use Rattle.facts.proofs.Facts.{dummy_outputs, unit_outputs, general_outputs}
+use Rattle.facts.specs.Members.{In, KeyIs, from_right, from_left, from_sum}
+use Rattle.facts.proofs.Members.{right_in, left_in, sum_in, keys_only, in_at, at_in, key_ascend}
 use Rattle.keys.specs.Least.{Mono, last_of, largest_of}
 use Rattle.keys.proofs.Laws.{last_none, last_most, mono_times}
 

@@ -15,7 +15,8 @@ use Rattle.paper.specs.Rows.{node_at, con_len, value_count}
 use Rattle.paper.specs.declared.Node.{Node}
 use Rattle.paper.specs.declared.Counters.{Counters}
 use Rattle.paper.specs.Keys.{node_keys}
-use Rattle.facts.specs.Facts.{Under, TableFacts, table_facts, node_under}
+use Rattle.facts.specs.Facts.{Under, TableFacts}
+use Rattle.facts.proofs.Facts.{table_facts, node_under}
 use Rattle.grow.specs.Small.{Small}
 use Rattle.paper.specs.Grow.{room_for_node}
 use Rattle.grow.proofs.Choose.{room_facts}

@@ -18,7 +18,7 @@ use Rattle.paper.specs.Limits.{mul_limit, key_limit}
 use Rattle.paper.specs.declared.Node.{Node}
 use Rattle.paper.specs.Keys.{node_keys, put, put_all, keys_of}
 use Rattle.facts.specs.Facts.{Under}
-use Rattle.facts.specs.Members.{three, put_less, put_same, put_more, value_same}
+use Rattle.facts.proofs.Members.{three, put_less, put_same, put_more, value_same}
 use Rattle.keys.specs.Least.{Mono, last_of, picked_at, none, pick_of, least_all, least_sum, first_from, start_at, Cut}
 
 -- ascending, from lo up to below hi

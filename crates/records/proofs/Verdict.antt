@@ -15,7 +15,8 @@ use Rattle.paper.specs.Rows.{node_at, word_from, is_leaf, is_dummy, inputs_ok, c
 use Rattle.paper.specs.Table.{range_ok, counters_ok, inner_ok, node_ok, leaf_step, leaves_before, cells_before, node_ok_at, nodes_ok, table_ok_at, table_ok, leaf_ok, dummy_ok}
 use Rattle.paper.specs.declared.Node.{Node}
 use Rattle.paper.specs.declared.Counters.{Counters}
-use Rattle.facts.specs.Facts.{NodeFacts, node_facts, a_leaf, a_dummy, a_unit, a_general, leaves_few}
+use Rattle.facts.specs.Facts.{NodeFacts, a_leaf, a_dummy, a_unit, a_general}
+use Rattle.facts.proofs.Facts.{node_facts, leaves_few}
 use Rattle.records.specs.declared.Record.{Record}
 use Rattle.records.specs.declared.Seen.{Seen}
 use Rattle.records.specs.Table.{node_of, record_in, records_ok, words_of, earlier_of, begin_of, takes, step_of, finish_of, seen_at}

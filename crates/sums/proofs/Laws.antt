@@ -21,9 +21,10 @@ use Rattle.paper.specs.declared.Found.TheVariants.{At, Absent}
 use Rattle.paper.specs.declared.Refusal.TheVariants.{NoSuchOutput, TableFails, WorkShort, NoSuchNode}
 use Rattle.paper.specs.declared.Demanded.{Demanded}
 use Rattle.paper.specs.declared.Demanded.TheVariants.{NotGiven}
-use Rattle.facts.specs.Facts.{TableFacts, NodeFactsAt, a_leaf, a_dummy, a_unit, a_general, used_at, used_length}
-use Rattle.facts.specs.Members.{key_ascend}
-use Rattle.runs.specs.Used.{nodes_length, same_node, fit_of, back}
+use Rattle.facts.specs.Facts.{TableFacts, NodeFactsAt, a_leaf, a_dummy, a_unit, a_general}
+use Rattle.facts.proofs.Facts.{used_at, used_length}
+use Rattle.facts.proofs.Members.{key_ascend}
+use Rattle.runs.proofs.Used.{nodes_length, same_node, fit_of, back}
 use Rattle.count.specs.Run.{Here}
 use Rattle.find.specs.Ways.{Rising, Sorted}
 use Rattle.find.proofs.Laws.{count_dummy, count_unit, output_place}

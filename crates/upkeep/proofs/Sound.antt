@@ -17,8 +17,10 @@ use Rattle.paper.specs.Table.{table_ok}
 use Rattle.paper.specs.Upkeep.{byte_at, truth_of, worth_of, value_of}
 use Rattle.paper.specs.declared.Node.{Node}
 use Rattle.paper.specs.declared.Counters.{Counters}
-use Rattle.facts.specs.Members.{In, left_in, right_in, sum_in, in_at}
-use Rattle.facts.specs.Facts.{TableFacts, table_facts, NodeFacts, NodeFactsAt, a_leaf, a_dummy, a_unit, a_general, GeneralFacts, UnitFacts, leaf_outputs, dummy_outputs, unit_outputs, general_outputs, leaf_low}
+use Rattle.facts.specs.Members.{In}
+use Rattle.facts.proofs.Members.{left_in, right_in, sum_in, in_at}
+use Rattle.facts.specs.Facts.{TableFacts, NodeFacts, NodeFactsAt, a_leaf, a_dummy, a_unit, a_general, GeneralFacts, UnitFacts}
+use Rattle.facts.proofs.Facts.{table_facts, leaf_outputs, dummy_outputs, unit_outputs, general_outputs, leaf_low}
 use Rattle.worth.specs.Value.{Ready, Sound}
 use Rattle.worth.proofs.Worth.{worth_leaf, worth_dummy, worth_inner}
 

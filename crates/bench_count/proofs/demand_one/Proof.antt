@@ -1,8 +1,9 @@
 use mathlib.Core.Path.{ap}
 use Prim.Native.Nat.{◌-◌, ◌/◌, ◌<◌}
 use native.Mathlib.Omega.{arith}
-use Rattle.runs.specs.Counts.{counting, counting_runs}
-use Rattle.runs.specs.Dry.{few_ends}
+use Rattle.runs.specs.Counts.{counting}
+use Rattle.runs.proofs.Counts.{counting_runs}
+use Rattle.runs.proofs.Dry.{few_ends}
 use Rattle.paper.specs.Rows.{value_count}
 use Rattle.count.specs.Run.{outs}
 use borrow.Author.Rules.{rules}

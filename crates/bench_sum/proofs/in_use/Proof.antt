@@ -3,7 +3,7 @@ use Prim.Native.Nat.{◌-◌, ◌/◌, ◌≤◌, ◌^◌}
 use native.Mathlib.Omega.{arith}
 use lib.ListN.{length}
 use borrow.Author.Tests.{not-false}
-use Rattle.facts.specs.Facts.{table_facts, words_fit, used_length}
+use Rattle.facts.proofs.Facts.{table_facts, words_fit, used_length}
 use Rattle.runs.specs.Used.{run_of}
 use Rattle.sums.proofs.Laws.{ready_of}
 use Rattle.bench_sum.proofs.Laws.{moved}

@@ -3,8 +3,9 @@ use Prim.Native.Nat.{◌+◌, ◌-◌, ◌/◌, ◌≤◌}
 use native.Mathlib.Omega.{arith}
 use Rattle.paper.specs.Rows.{con_len}
 use Rattle.count.specs.Run.{outs}
-use Rattle.runs.specs.Counts.{weighing, weighing_runs}
-use Rattle.runs.specs.Dry.{few_ends}
+use Rattle.runs.specs.Counts.{weighing}
+use Rattle.runs.proofs.Counts.{weighing_runs}
+use Rattle.runs.proofs.Dry.{few_ends}
 use borrow.Author.Rules.{rules}
 use Rattle.bench_sum.proofs.weigh_one.Statement.{statement}
 use Rattle.bench_sum.proofs.weigh_one.Tie as tie

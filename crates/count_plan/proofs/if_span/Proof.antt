@@ -1,7 +1,7 @@
 use Rattle.paper.specs.Plain.{if_span}
 use mathlib.Core.Path.{sym, ap, ◌∙◌}
 use Prim.Native.Nat.{ℕ, ◌+◌, ◌-◌}
-use Rattle.facts.specs.Ranges.{loop_low, span_eq}
+use Rattle.facts.proofs.Ranges.{loop_low, span_eq}
 use borrow.Author.Rules.{rules}
 use Rattle.count_plan.proofs.if_span.Statement.{statement}
 use Rattle.count_plan.proofs.if_span.Tie as tie

@@ -1,5 +1,5 @@
 use Rattle.paper.specs.Plain.{only_span}
-use Rattle.facts.specs.Ranges.{loop_low, span_eq}
+use Rattle.facts.proofs.Ranges.{loop_low, span_eq}
 use mathlib.Core.Path.{ap}
 use Prim.Native.Nat.{ℕ, ◌-◌}
 use borrow.Author.Rules.{rules}

@@ -5,7 +5,8 @@ use borrow.Author.Rules.{rules}
 use borrow.Author.Tests.{not-true, not-false, leb-false}
 use Rattle.paper.specs.declared.Node.{Node}
 use Rattle.paper.specs.Table.{table_ok}
-use Rattle.facts.specs.Facts.{Under, table_facts, node_under, TableFacts}
+use Rattle.facts.specs.Facts.{Under, TableFacts}
+use Rattle.facts.proofs.Facts.{table_facts, node_under}
 use Rattle.paper.specs.Join.{nodes_plan, inner_plan}
 use Rattle.join_plan.proofs.Plans.{or_none, plan_table, plan_missing, mul_facts, value_few, np_muls, np_unit, np_general}
 use Prim.Native.Nat.{ℕ, ◌/◌, ◌≤◌}

@@ -8,8 +8,8 @@ use Rattle.paper.specs.Rows.{con_lits}
 use Rattle.paper.specs.Plain.{lit_at}
 use Rattle.paper.specs.Weighted.{weigh_run}
 use Rattle.paper.specs.declared.Demanded.TheVariants.{Given}
-use Rattle.runs.specs.Met.{no_vars, no_room, all_given}
-use Rattle.runs.specs.Dry.{fit_dry}
+use Rattle.runs.proofs.Met.{no_vars, no_room, all_given}
+use Rattle.runs.proofs.Dry.{fit_dry}
 use Rattle.runs.specs.Used.{run_of}
 use Rattle.sum.proofs.Laws.{outs_few}
 use Rattle.meet.proofs.Laws.{sum_dry_ends, sum_known, sum_real_ends, sum_real}

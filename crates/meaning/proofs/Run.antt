@@ -19,12 +19,18 @@ use Rattle.paper.specs.declared.Span.{Span}
 use Rattle.paper.specs.declared.Precond.{Precond}
 use Rattle.paper.specs.declared.Precond.TheVariants.{Return, Pass, Continue}
 use Rattle.meaning.specs.Table.{Kind, leaf, dummy, unit, general, Dir, If, OnlyIf, Done, NotGeneral, Inner, UnitOk, NodeOk, History, Closed}
-use Rattle.facts.specs.Ranges.{ask_span, if_ask, only_ask, Need, need_asked, need_alone, need_none, ask_to}
-use Rattle.meaning.specs.Lists.{own_list, Needs, list_own, list_closed}
-use Rattle.meaning.specs.Rows.{Net, State, tab_of, marks_of, has_mark, Good, Grow, grow_refl, grow_trans, Still, still_refl, still_trans, still_from, ensure, put, append, held_inner, mark_inner, Ensured, ensure_good, still_done, done_of_true, put_at, put_grow, put_still, put_good, append_good, append_grow}
-use Rattle.meaning.specs.View.{kind_of, net_of, Fit, test_is, count_is, lits_length, lits_at, cell_lit_is}
-use Rattle.meaning.specs.Emit.{gather, emit_both_is}
-use Rattle.meaning.specs.Asked.{wants, Asked, Rec, RecOk, walk_good, met_is, missing_is, or_right, or_left, either, no_outputs, leaf_done}
+use Rattle.facts.specs.Ranges.{ask_span, Need}
+use Rattle.facts.proofs.Ranges.{if_ask, only_ask, need_asked, need_alone, need_none, ask_to}
+use Rattle.meaning.specs.Lists.{own_list, Needs}
+use Rattle.meaning.proofs.Lists.{list_own, list_closed}
+use Rattle.meaning.specs.Rows.{Net, State, tab_of, marks_of, has_mark, Good, Grow, Still, ensure, put, append}
+use Rattle.meaning.proofs.Rows.{grow_refl, grow_trans, still_refl, still_trans, still_from, held_inner, mark_inner, Ensured, ensure_good, still_done, done_of_true, put_at, put_grow, put_still, put_good, append_good, append_grow}
+use Rattle.meaning.specs.View.{kind_of, net_of, Fit}
+use Rattle.meaning.proofs.View.{test_is, count_is, lits_length, lits_at, cell_lit_is}
+use Rattle.meaning.specs.Emit.{gather}
+use Rattle.meaning.proofs.Emit.{emit_both_is}
+use Rattle.meaning.specs.Asked.{wants, Asked, Rec, RecOk}
+use Rattle.meaning.proofs.Asked.{walk_good, met_is, missing_is, or_right, or_left, either, no_outputs, leaf_done}
 
 -- ---- a unit's output
 

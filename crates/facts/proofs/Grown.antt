@@ -19,13 +19,16 @@ use Rattle.paper.specs.declared.Choice.TheVariants.{New}
 use Rattle.paper.specs.declared.Pair.{Pair}
 use Rattle.paper.specs.declared.Sizes.{Sizes}
 use Rattle.paper.specs.declared.Planned.TheVariants.{Make}
-use Rattle.facts.specs.Facts.{LitFacts, lit_facts, CellFacts, NodeFacts, a_leaf, a_dummy, a_unit, a_general, TableFacts, table_facts, table_made, node_under}
-use Rattle.facts.specs.Members.{node_same}
-use Rattle.facts.specs.Carry.{node_moved}
-use Rattle.facts.specs.Words.{put_length, put_old, put_new}
-use Rattle.facts.specs.Pastes.{paste_below, paste_at, count_length, count_at}
-use Rattle.facts.specs.Add.{with_node, add_node}
-use Rattle.facts.specs.Plans.{NodeRoom, leaf_new, dummy_new, CellRoom, UnitMade, GeneralMade, inner_made}
+use Rattle.facts.specs.Facts.{LitFacts, CellFacts, NodeFacts, a_leaf, a_dummy, a_unit, a_general, TableFacts}
+use Rattle.facts.proofs.Facts.{lit_facts, table_facts, table_made, node_under}
+use Rattle.facts.proofs.Members.{node_same}
+use Rattle.facts.proofs.Carry.{node_moved}
+use Rattle.facts.proofs.Words.{put_length, put_old, put_new}
+use Rattle.facts.proofs.Pastes.{paste_below, paste_at, count_length, count_at}
+use Rattle.facts.specs.Add.{with_node}
+use Rattle.facts.proofs.Add.{add_node}
+use Rattle.facts.specs.Plans.{NodeRoom, CellRoom, UnitMade, GeneralMade}
+use Rattle.facts.proofs.Plans.{leaf_new, dummy_new, inner_made}
 
 -- ---- fresh: whatever the rows hold
 

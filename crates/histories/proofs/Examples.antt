@@ -13,7 +13,8 @@ use Rattle.paper.specs.Upkeep.{reset_of, empty_of}
 use Rattle.paper.specs.Calls.{Db, Work, Call, fresh, leaf, inner, unweighted, reset, empty, fresh_step, leaf_call, inner_call, unweighted_call, reset_call, empty_call, step}
 use Rattle.paper.specs.Sums.{blank, played}
 use Rattle.paper.specs.declared.Semantics.TheVariants.{IfAndOnlyIf}
-use Rattle.histories.specs.Histories.{words_after, Reached, history_of}
+use Rattle.histories.specs.Histories.{words_after, Reached}
+use Rattle.histories.proofs.Histories.{history_of}
 
 abbrev work : Work
 work = record { ints = 10; bytes = 10 }

@@ -1,16 +1,19 @@
 -- What the table check says, as what the meaning of clauses needs: the shape of the view, its cells, its keys.
-use Rattle.std.specs.Prelude.{◌≡◌, refl, true, false, List, ◌⊎◌, ℕ, zero, suc, ◌+◌, ◌*◌, ◌<◌, ◌≤◌, ℤ, pos, negsuc, nat_abs, get_or, eqb}
+use Rattle.std.specs.Prelude.{◌≡◌, refl, false, List, ◌⊎◌, ℕ, zero, suc, ◌+◌, ◌*◌, ◌<◌, ◌≤◌, ℤ, pos, negsuc, nat_abs, get_or, eqb}
 use Rattle.std.proofs.Common.{sym, ◌∙◌, ap, true≢false, inl, inr, mul-pos, arith}
 use Rattle.std.proofs.Math.Decide.{dec_lt}
 use Rattle.paper.specs.Rows.{node_at, word_from, value_count, value_at, con_val, con_len, is_leaf, is_dummy, is_neg}
 use Rattle.paper.specs.declared.Counters.{Counters}
-use Rattle.facts.specs.Facts.{InnerFacts, UnitFacts, GeneralFacts, NodeFactsAt, a_leaf, a_dummy, a_unit, a_general, TableFacts, node_under, leaf_low, cells_apart}
-use Rattle.facts.specs.Members.{KeyIs, from_right, from_left, from_sum, left_key, right_key, sum_key, key_only, key_ascend}
+use Rattle.facts.specs.Facts.{InnerFacts, UnitFacts, GeneralFacts, NodeFactsAt, a_leaf, a_dummy, a_unit, a_general, TableFacts}
+use Rattle.facts.proofs.Facts.{node_under, leaf_low, cells_apart}
+use Rattle.facts.specs.Members.{KeyIs, from_right, from_left, from_sum}
+use Rattle.facts.proofs.Members.{left_key, right_key, sum_key, key_only, key_ascend}
 use Rattle.meaning.specs.Base.{Nz, var}
 use Rattle.meaning.specs.Table.{Kind, leaf, dummy, unit, general, key_at, NotGeneral, Inner, NodeOk, Shape}
-use Rattle.meaning.specs.Sound.{strong}
+use Rattle.meaning.proofs.Sound.{strong}
 use Rattle.meaning.specs.Rows.{Net, State, tab_of, Room}
-use Rattle.meaning.specs.View.{kind_of, net_of, key_of, Sharp, Fit, word_is, test_is, count_is, value_is}
+use Rattle.meaning.specs.View.{kind_of, net_of, key_of, Sharp, Fit}
+use Rattle.meaning.proofs.View.{word_is, test_is, count_is, value_is}
 
 nz_of : (z : ℤ) → 1 ≤ nat_abs z → Nz z
 nz_of (pos zero) h = let x : ⊥ = omega arith in x
