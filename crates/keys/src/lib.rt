@@ -1,5 +1,7 @@
 // The keys of a general node: L, R and all sums l + r, ascending, each once. One law serves the check and the making of a
 // row of keys: from past a key on, the least of the sums is the next key.
+#![tactic(auto)]
+
 ghost use Rattle.std.specs.Prelude.{◌≡◌, true, cond, ℕ, ◌+◌, ◌*◌, ◌<◌, ◌≤◌, ◌^◌, min, length, get_or};
 ghost use Rattle.std.proofs.Math.Seq.{paste};
 ghost use Rattle.paper.specs.Limits.{mul_limit};

@@ -19,7 +19,7 @@ pub const NODE_WORDS: usize = 8;
 
 // The counters that go with the rows, by value, in and out: F, the first free variable, the last variable, and how many
 // nodes, input literals, cells and clause words are in use.
-#[derive(Drop)]
+#[derive(Clone, Copy)]
 pub struct Counters {
     pub first: usize,
     pub next: usize,
@@ -31,7 +31,7 @@ pub struct Counters {
 }
 
 // The eight words of a node. kind: 0 leaf, 1 unit, 2 general, 3 dummy.
-#[derive(Drop)]
+#[derive(Clone, Copy)]
 pub struct Node {
     pub kind: usize,
     pub left: usize,
@@ -44,7 +44,7 @@ pub struct Node {
 }
 
 // The crate's `Semantics`: what an unweighted demand asks for.
-#[derive(Drop)]
+#[derive(Clone, Copy)]
 pub enum Semantics {
     If,
     OnlyIf,
@@ -52,7 +52,7 @@ pub enum Semantics {
 }
 
 // What has been asked for at a cell, as the crate's `LitData` keeps it. In the row: 0, 1, 2, 3.
-#[derive(Drop)]
+#[derive(Clone, Copy)]
 pub enum Mark {
     Unmarked,
     MarkedIf,
@@ -61,14 +61,14 @@ pub enum Mark {
 }
 
 // The directions of a demand, taken apart: If, OnlyIf.
-#[derive(Drop)]
+#[derive(Clone, Copy)]
 pub struct Want {
     pub fi: bool,
     pub fo: bool,
 }
 
 // Why a call is refused. specs/Numbers.antt has document 01's number for each.
-#[derive(Drop)]
+#[derive(Clone, Copy)]
 pub enum Refusal {
     NoSuchOutput,
     TableFails,
@@ -88,38 +88,38 @@ pub enum Refusal {
 }
 
 // The answers. A done call carries the counters after it, where it moves any.
-#[derive(Drop)]
+#[derive(Clone, Copy)]
 pub enum Begun {
     Made(Counters),
     NotMade(Refusal),
 }
 
-#[derive(Drop)]
+#[derive(Clone, Copy)]
 pub enum Added {
     Done(usize, Counters),
     Refused(Refusal),
 }
 
-#[derive(Drop)]
+#[derive(Clone, Copy)]
 pub enum Demanded {
     Given(i32, Counters),
     NotGiven(Refusal),
 }
 
-#[derive(Drop)]
+#[derive(Clone, Copy)]
 pub enum Kept {
     Did(Counters),
     DidNot(Refusal),
 }
 
-#[derive(Drop)]
+#[derive(Clone, Copy)]
 pub enum Valued {
     Worth(usize),
     NotValued(Refusal),
 }
 
 // What a call that adds a leaf or the dummy does: an id that is there already, a new node, or why not.
-#[derive(Drop)]
+#[derive(Clone, Copy)]
 pub enum Choice {
     Old(usize),
     New,
@@ -127,7 +127,7 @@ pub enum Choice {
 }
 
 // The two connections of an inner node that is asked for.
-#[derive(Drop)]
+#[derive(Clone, Copy)]
 pub struct Pair {
     pub left: usize,
     pub lmul: usize,
@@ -136,7 +136,7 @@ pub struct Pair {
 }
 
 // The lengths of the rows that an inner node goes to.
-#[derive(Drop)]
+#[derive(Clone, Copy)]
 pub struct Sizes {
     pub nodes: usize,
     pub keys: usize,
@@ -145,35 +145,35 @@ pub struct Sizes {
 }
 
 // The inner node to be written, or why not.
-#[derive(Drop)]
+#[derive(Clone, Copy)]
 pub enum Planned {
     Make(Node),
     Reject(Refusal),
 }
 
 // The counters that a demand moves: the next free variable, and the words of the clause row that are taken.
-#[derive(Drop)]
+#[derive(Clone, Copy)]
 pub struct Run {
     pub next: usize,
     pub words: usize,
 }
 
 // "Each clause has at most three literals; while being built it is a small value of its own."
-#[derive(Drop)]
+#[derive(Clone, Copy)]
 pub struct Clause {
     pub lits: [i32; 3],
     pub len: usize,
 }
 
 // The outputs from `from` up to, and without, `to`.
-#[derive(Drop)]
+#[derive(Clone, Copy)]
 pub struct Span {
     pub from: usize,
     pub to: usize,
 }
 
 // What the walk over the two children goes through.
-#[derive(Drop)]
+#[derive(Clone, Copy)]
 pub struct Ranges {
     pub left: usize,
     pub right: usize,
@@ -184,7 +184,7 @@ pub struct Ranges {
 }
 
 // What is left to do at a cell: the directions that are missing, and the mark that the cell then has.
-#[derive(Drop)]
+#[derive(Clone, Copy)]
 pub struct Todo {
     pub want: Want,
     pub mark: u8,
@@ -192,7 +192,7 @@ pub struct Todo {
 
 // "the three-way outcome stays an enum holding the ranges": nothing is missing, one child is the dummy and the other is
 // asked, or the children are walked.
-#[derive(Drop)]
+#[derive(Clone, Copy)]
 pub enum Precond {
     Return,
     Pass(usize, Todo),
@@ -200,21 +200,21 @@ pub enum Precond {
 }
 
 // What a lookup of a value finds.
-#[derive(Drop)]
+#[derive(Clone, Copy)]
 pub enum Found {
     At(usize),
     Absent,
 }
 
 // A way to make up a value: an output of the left child and one of the right, counted from 1, and 0 for none.
-#[derive(Drop)]
+#[derive(Clone, Copy)]
 pub struct Way {
     pub x: usize,
     pub y: usize,
 }
 
 // What is to be done for an output of a weighted demand: nothing, an index of a unit, or a cell and its key.
-#[derive(Drop)]
+#[derive(Clone, Copy)]
 pub enum Job {
     Nothing,
     Count(usize),

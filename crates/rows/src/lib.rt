@@ -1,4 +1,6 @@
 // Total reads of the rows: past a row's end everything reads as 0. And the tests of one row of the table.
+#![tactic(auto)]
+
 ghost use Rattle.std.specs.Prelude.{◌≡◌, nat_abs};
 ghost use Prim.Native.Nat.{ℕ, ◌+◌, ◌*◌, ◌<◌, ◌≤◌, max};
 ghost use Rattle.paper.specs.Limits.{node_words};

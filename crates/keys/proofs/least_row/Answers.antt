@@ -1,0 +1,21 @@
+use Prim.Native.Nat.{ℕ, ◌+◌, ◌-◌, ◌*◌, ◌≤◌}
+use native.Mathlib.Omega.{arith}
+use mathlib.Core.Path.{◌≡◌, ap, ap₂, ◌∙◌}
+use borrow.Author.Rules.{rules}
+use Rattle.paper.specs.Rows.{con_len, con_val}
+use Rattle.keys.specs.Least.{pick_of, least_all}
+use Rattle.keys.proofs.Laws.{prod_small, all_least_none, all_least_more}
+use Rattle.keys.proofs.least_row.Goals as goal
+
+pub loop-j-init : goal.loop-j-init
+loop-j-init c = (omega arith, all_least_none _ _ _)
+
+pub loop-j-preserved : goal.loop-j-preserved
+loop-j-preserved c =
+    let lp = c in
+    let a = lp.args in (
+      omega arith,
+      c.pick-b.ensures
+          ∙ ap₂ (λ (v : ℕ) (b : ℕ). pick_of a.a (a.l + a.m * v) b) c.value_at-v.ensures.0 lp.loop-j.invariant.1
+          ∙ all_least_more lp.loop-j.j (λ (k : ℕ). a.l + con_val a.keys.now a.r a.m k) a.a a.best,
+    )
