@@ -1,5 +1,7 @@
 // The unweighted run: the demand of an output and its walk over the children call each other, and the node id falls at
 // each round. One recursion serves twice: on working rows with a full clause row it only counts, then it runs in earnest.
+#![tactic(auto)]
+
 ghost use Rattle.std.specs.Prelude.{◌≡◌, ℕ, ◌+◌, ◌-◌, ◌/◌, ◌<◌, ◌≤◌, ◌^◌, length, neg_ℤ};
 ghost use Rattle.std.specs.Int.{w32};
 ghost use Rattle.std.proofs.Common.{SFits};

@@ -1,5 +1,7 @@
 // What a demand of an output comes to: what of it is missing, and what is to be asked of the children. The crate `count` walks
 // and emits.
+#![tactic(auto)]
+
 ghost use Rattle.std.specs.Prelude.{◌≡◌, cond, ◌<◌, ◌^◌};
 ghost use Rattle.paper.specs.Rows.{node_at};
 ghost use Rattle.paper.specs.Plain.{mark_of, mark_byte, has_if, has_only, missing_of, if_span, only_span, no_span, ranges_of, plan_two, plan_unit};

@@ -1,5 +1,7 @@
 // The outputs of a node by their values: the lookup of a key, the ways to make up a value from the outputs of two children, and what is to
 // be done for an output.
+#![tactic(auto)]
+
 ghost use Rattle.std.specs.Prelude.{◌≡◌, ℕ, ◌*◌, ◌<◌, ◌≤◌, ◌^◌, length};
 ghost use Rattle.paper.specs.Rows.{node_at, con_len};
 ghost use Rattle.paper.specs.Weighted.{key_from, output_of, share_of, joined, way_two, way_of, job_of};

@@ -1,4 +1,6 @@
 // The calls that begin a table and add a leaf or the dummy. Each decides first (crate choose), over rows that it only reads, and then writes.
+#![tactic(auto)]
+
 ghost use Rattle.std.specs.Prelude.{◌≡◌, ◌+◌, ◌*◌, ◌≤◌, length};
 ghost use Rattle.paper.specs.Limits.{node_words};
 ghost use Rattle.paper.specs.Grow.{fresh_of, put_node, leaf_node, dummy_node, leaf_plan, leaf_added, leaf_nodes, leaf_inputs, dummy_plan, dummy_added, dummy_nodes};

@@ -1,5 +1,7 @@
 // The call that adds an inner node: what it comes to is decided first (`join_plan`), over rows that are only read; here it is
 // written.
+#![tactic(auto)]
+
 ghost use Rattle.std.specs.Prelude.{◌≡◌, ◌+◌, ◌≤◌, length, replicate, pos};
 ghost use Rattle.std.proofs.Math.Seq.{paste};
 ghost use Rattle.paper.specs.Limits.{cell_limit};

@@ -1,4 +1,6 @@
 // What adding an inner node comes to: the node, or why not. It only reads; the crate `join` writes.
+#![tactic(auto)]
+
 ghost use Rattle.std.specs.Prelude.{◌≡◌, ◌≤◌};
 ghost use Rattle.paper.specs.Limits.{cell_limit, mul_limit};
 ghost use Rattle.paper.specs.Rows.{con_len, value_at};

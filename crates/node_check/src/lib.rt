@@ -1,4 +1,6 @@
 // The table check of one node, as a value, with its children's nodes and the totals before it.
+#![tactic(auto)]
+
 ghost use Rattle.std.specs.Prelude.{◌≡◌, ◌+◌, eqb, leb};
 ghost use Rattle.paper.specs.Table.{leaf_ok, dummy_ok, depth_ok, inner_ok, unit_ok, general_ok, node_ok};
 

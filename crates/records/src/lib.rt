@@ -7,7 +7,7 @@ ghost use Rattle.records.specs.Table.{earlier_of, node_of, begin_of, passed_of, 
 use paper::{Counters, Node};
 
 // The eight words of a node, as in the row of words.
-#[derive(Drop)]
+#[derive(Clone, Copy)]
 pub struct Record {
     pub kind: u32,
     pub left: u32,
@@ -21,7 +21,7 @@ pub struct Record {
 
 // What has been found so far: no record was refused, the leaves and the cells of the nodes before, and how many nodes
 // are still to come.
-#[derive(Drop)]
+#[derive(Clone, Copy)]
 pub struct Seen {
     pub ok: bool,
     pub leaves: usize,

@@ -1,4 +1,6 @@
 // The values of the nodes under an assignment, and whether an assignment is one.
+#![tactic(auto)]
+
 ghost use Rattle.std.specs.Prelude.{◌≡◌, ℕ, ◌+◌, ◌*◌, ◌<◌, ◌≤◌, length, get_or, nat_abs, pos};
 ghost use Rattle.paper.specs.Limits.{node_limit, mul_limit};
 ghost use Rattle.paper.specs.Rows.{node_at};

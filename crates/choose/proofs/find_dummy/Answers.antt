@@ -1,0 +1,24 @@
+use Prim.Native.Nat.{ℕ, ◌-◌, ◌≤◌}
+use native.Mathlib.Omega.{arith}
+use mathlib.Core.Path.{◌≡◌, sym, ap, ◌∙◌}
+use lib.Dec.{eqb}
+use borrow.Author.Rules.{rules}
+use borrow.Author.Tests.{eq-eqb, ne_eqb}
+use Rattle.paper.specs.Rows.{node_at}
+use Rattle.paper.specs.declared.Node.{Node}
+use Rattle.paper.specs.Below.{first_below}
+use Rattle.choose.proofs.Search.{first_none, first_more, first_found, first_end}
+use Rattle.choose.proofs.find_dummy.Goals as goal
+
+pub loop-i-init : goal.loop-i-init
+loop-i-init c = (omega arith, first_none _)
+
+pub returns-then-k-eq3 : goal.returns-then-k-eq3
+returns-then-k-eq3 c =
+    let lp = c in
+    sym (first_found lp.args.count _ lp.loop-i.i c.loop-i-test.true lp.loop-i.invariant.1 (ap (λ (n : Node). eqb n.kind 3) (sym c.node_at-n.ensures) ∙ eq-eqb _ _ c.if-k-eq3.true))
+
+pub loop-i-preserved : goal.loop-i-preserved
+loop-i-preserved c =
+    let lp = c in
+    (omega arith, first_more lp.loop-i.i _ lp.loop-i.invariant.1 (ap (λ (n : Node). eqb n.kind 3) (sym c.node_at-n.ensures) ∙ ne_eqb _ _ c.if-k-eq3.false))

@@ -1,0 +1,23 @@
+use Rattle.count.proofs.Laws.{emit_of}
+use mathlib.Core.Path.{sym, ◌∙◌, subst}
+use mathlib.Core.List.{List}
+use lib.IntN.{ℤ}
+use mir.Facts.{to_z-of_z}
+use Rattle.clause.specs.Row.{Neg}
+use Rattle.count.proofs.Laws.{neg_lits_of}
+use borrow.Author.Rules.{rules}
+use Rattle.count.proofs.own_clauses.Goals as goal
+
+pub emit-requires-clause-neg : goal.emit-requires-clause-neg
+emit-requires-clause-neg c =
+    let s = c in
+    let n : List ℤ → Type 0 = Neg in
+    let l = neg_lits_of s.args.nodes.now s.args.inputs.now s.args.lits.now s.args.left s.requires.neg s.requires.neg_2 in
+    let r = neg_lits_of s.args.nodes.now s.args.inputs.now s.args.lits.now s.args.right s.requires.neg s.requires.neg_2 in subst n (sym c.con_lits-l.ensures) l
+
+pub emit-requires-clause-neg_2 : goal.emit-requires-clause-neg_2
+emit-requires-clause-neg_2 c =
+    let s = c in
+    let n : List ℤ → Type 0 = Neg in
+    let l = neg_lits_of s.args.nodes.now s.args.inputs.now s.args.lits.now s.args.left s.requires.neg s.requires.neg_2 in
+    let r = neg_lits_of s.args.nodes.now s.args.inputs.now s.args.lits.now s.args.right s.requires.neg s.requires.neg_2 in subst n (sym c.con_lits-r.ensures) r

@@ -1,0 +1,13 @@
+use mathlib.Core.Path.{◌∙◌}
+use native.Mathlib.Omega.{arith}
+use Rattle.count.proofs.Plan.{unit_in, plan_is_unit, plan_not_unit}
+use borrow.Author.Rules.{rules}
+use Rattle.count.proofs.precond_unweighted.Goals as goal
+
+pub returns-then-n-eq1 : goal.returns-then-n-eq1
+returns-then-n-eq1 c =
+    let s = c in
+    c.precond_unit.ensures ∙ plan_is_unit _ _ _ _ _ _ _ c.node_at-n.ensures c.if-n-eq1.true c.missing-todo.ensures
+
+pub returns : goal.returns
+returns c = plan_not_unit _ _ _ _ _ _ c.node_at-n.ensures c.if-n-eq1.false

@@ -1,0 +1,18 @@
+use Rattle.paper.specs.Plain.{if_span}
+use mathlib.Core.Path.{sym, ap, ◌∙◌}
+use Prim.Native.Nat.{ℕ, ◌+◌, ◌-◌}
+use Rattle.facts.proofs.Ranges.{loop_low, span_eq}
+use borrow.Author.Rules.{rules}
+use Rattle.count_plan.proofs.if_span.Goals as goal
+
+pub returns-then-x-eq0 : goal.returns-then-x-eq0
+unfolding if_span
+returns-then-x-eq0 c =
+    let s = c in
+    span_eq (ap (λ (n : ℕ). n - 1) (sym c.if-x-eq0.true ∙ ap (λ (m : ℕ). s.args.i + 1 - m) c.min.ensures)) c.min-to.ensures
+
+pub returns : goal.returns
+unfolding if_span
+returns c =
+    let s = c in
+    span_eq (ap (λ (m : ℕ). s.args.i + 1 - m - 1) c.min.ensures) c.min-to.ensures

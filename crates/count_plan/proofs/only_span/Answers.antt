@@ -1,0 +1,12 @@
+use Rattle.paper.specs.Plain.{only_span}
+use Rattle.facts.proofs.Ranges.{loop_low, span_eq}
+use mathlib.Core.Path.{ap}
+use Prim.Native.Nat.{ℕ, ◌-◌}
+use borrow.Author.Rules.{rules}
+use Rattle.count_plan.proofs.only_span.Goals as goal
+
+pub returns : goal.returns
+unfolding only_span
+returns c =
+    let s = c in
+    span_eq (ap (λ (m : ℕ). s.args.i - m) c.min.ensures) c.min-to.ensures

@@ -1,0 +1,24 @@
+use native.Mathlib.Omega.{arith}
+use mathlib.Core.Path.{◌≡◌, sym, ap, ◌∙◌}
+use Prim.Native.Nat.{◌+◌, ◌-◌, ◌/◌}
+use Rattle.paper.specs.Weighted.{place_of}
+use Rattle.find.proofs.Laws.{share_yes, share_no, output_place, count_fits}
+use borrow.Author.Rules.{rules}
+use Rattle.find.proofs.share_of.Goals as goal
+
+pub returns-in_default : goal.returns-in_default
+returns-in_default c = let s = c in
+    share_yes s.args.keys.now s.args.n s.args.m s.args.v _ c.if-v-m-eq0.true (sym c.in_default.is ∙ c.output_of.ensures)
+
+pub overflow_add-result : goal.overflow_add-result
+overflow_add-result c = let s = c in
+    let e = sym c.in-At.is ∙ c.output_of.ensures in
+    let h : c.in-At.j + 1 ≡ _ = ap place_of e in
+    omega (arith, h, output_place s.args.keys.now s.args.n (s.args.v / s.args.m), count_fits s.args.n (search rules))
+
+pub returns-then-v-m-eq0 : goal.returns-then-v-m-eq0
+returns-then-v-m-eq0 c = let s = c in
+    share_yes s.args.keys.now s.args.n s.args.m s.args.v _ c.if-v-m-eq0.true (sym c.in-At.is ∙ c.output_of.ensures)
+
+pub returns : goal.returns
+returns c = sym (share_no _ _ _ _ c.if-v-m-eq0.false)

@@ -1,0 +1,17 @@
+use mathlib.Core.Path.{ap₂}
+use mathlib.Core.Bool.{not, ◌&&◌, ◌||◌}
+use lib.Dec.{leb, eqb}
+use borrow.Author.Rules.{rules}
+use borrow.Author.Tests.{leb-true}
+use Rattle.paper.specs.Below.{and_then, and_else, ands6}
+use Rattle.paper.specs.Table.{general_ok}
+use Rattle.paper.specs.Limits.{mul_limit}
+use Rattle.node_check.proofs.general_ok.Goals as goal
+
+pub returns-then-n-l : goal.returns-then-n-l
+unfolding general_ok
+returns-then-n-l c = and_then _ _ _ c.if-n-l.true (ap₂ ◌&&◌ c.marks_low.ensures c.general_keys_ok.ensures)
+
+pub returns-else-n-l : goal.returns-else-n-l
+unfolding general_ok
+returns-else-n-l c = and_else _ _ c.if-n-l.false

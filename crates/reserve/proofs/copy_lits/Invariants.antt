@@ -1,0 +1,14 @@
+use Prim.Native.Nat.{ℕ, ◌-◌, ◌<◌, ◌≤◌}
+use native.Mathlib.Omega.{arith}
+use mathlib.Core.Path.{◌≡◌, refl, ◌∙◌}
+use lib.ListN.{length, get_or, length-set}
+use lib.IntN.{pos}
+use mir.Facts.{to_z-of_z}
+use Rattle.reserve.proofs.Give.{copy_more}
+use Rattle.reserve.proofs.copy_lits.Given as goal
+
+abbrev pub invariant-loop-i : goal.invariant-loop-i
+invariant-loop-i l = (l.i ≤ l.count) × (length l.work ≡ length l.initial.work) × ((j : ℕ) → j < l.i → get_or l.work j (pos 0) ≡ get_or l.lits j (pos 0))
+
+abbrev pub decreases-loop-i : goal.decreases-loop-i
+decreases-loop-i l = l.count - l.i

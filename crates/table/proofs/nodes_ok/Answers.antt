@@ -1,0 +1,61 @@
+use Prim.Native.Nat.{ℕ, ◌+◌, ◌-◌, ◌*◌, ◌<◌, ◌≤◌}
+use native.Mathlib.Omega.{arith}
+use mathlib.Core.Path.{◌≡◌, sym, ap, ap₂, ◌∙◌}
+use mathlib.Core.Bool.{true, ◌&&◌}
+use lib.Dec.{eqb}
+use borrow.Author.Rules.{rules}
+use borrow.Author.Tests.{not-true, not-false}
+use Rattle.paper.specs.Below.{all_below, all_none, all_more, all_fails, sum_none, sum_more, and_then, and_else, and_both}
+use Rattle.paper.specs.Rows.{node_at}
+use Rattle.paper.specs.Table.{node_ok_at, nodes_ok, leaf_step, leaves_before, cells_before}
+use Rattle.paper.specs.Limits.{node_words}
+use Rattle.paper.specs.declared.Node.{Node}
+use Rattle.facts.proofs.Facts.{at_node, step_small}
+use native.Mathlib.Nat.{le_antisymm}
+use Rattle.table.proofs.nodes_ok.Goals as goal
+
+pub loop-i-init : goal.loop-i-init
+loop-i-init c = (omega arith, all_none _, sym (sum_none _), sym (sum_none _), omega arith, omega arith)
+
+pub returns-then-not-node_ok : goal.returns-then-not-node_ok
+unfolding nodes_ok
+returns-then-not-node_ok c =
+    let asked : node_ok_at (node_at c.args.nodes.now) c.args.keys.now c.args.marks.now c.args.c.cells c.loop-i.i ≡ c.node_ok.result = let lp = c in let a = c.args in sym (c.node_ok.ensures ∙ at_node (node_at a.nodes.now) a.keys.now a.marks.now a.c.cells lp.loop-i.i c.node_at-n.result c.node_at-l.result c.node_at-r.result lp.loop-i.inputs lp.loop-i.cells c.node_at-n.ensures c.node_at-l.ensures c.node_at-r.ensures lp.loop-i.invariant.2 lp.loop-i.invariant.3) in
+    let lp = c in
+    and_else _ _ (all_fails c.args.c.nodes _ lp.loop-i.i c.loop-i-test.true (asked ∙ c.if-not-node_ok.true))
+
+pub overflow_add-cells : goal.overflow_add-cells
+unfolding node_at
+overflow_add-cells c =
+    let small : c.node_at-n.result.count < 4294967296 = let lp = c in let e = ap (λ (n : Node). n.count) c.node_at-n.ensures in omega (arith, e, lp.shared_slice_known-1.given (lp.loop-i.i * node_words + 6)) in
+    let lp = c in
+    omega (arith, c.requires, lp.loop-i.invariant.5, c.loop-i-test.true, small)
+
+pub loop-i-preserved : goal.loop-i-preserved
+unfolding node_at
+loop-i-preserved c =
+    let asked : node_ok_at (node_at c.args.nodes.now) c.args.keys.now c.args.marks.now c.args.c.cells c.loop-i.i ≡ c.node_ok.result = let lp = c in let a = c.args in sym (c.node_ok.ensures ∙ at_node (node_at a.nodes.now) a.keys.now a.marks.now a.c.cells lp.loop-i.i c.node_at-n.result c.node_at-l.result c.node_at-r.result lp.loop-i.inputs lp.loop-i.cells c.node_at-n.ensures c.node_at-l.ensures c.node_at-r.ensures lp.loop-i.invariant.2 lp.loop-i.invariant.3) in
+    let small : c.node_at-n.result.count < 4294967296 = let lp = c in let e = ap (λ (n : Node). n.count) c.node_at-n.ensures in omega (arith, e, lp.shared_slice_known-1.given (lp.loop-i.i * node_words + 6)) in
+    let lp = c in
+    let i = lp.loop-i.i in
+    let a = c.args in
+    let n = c in
+    let ok = c in (
+      omega (arith, c.loop-i-test.true),
+      all_more i _ ∙ and_both _ _ lp.loop-i.invariant.1 (asked ∙ c.if-not-node_ok.false),
+      ap₂ (λ (x : ℕ) (y : ℕ). x + y) lp.loop-i.invariant.2 (c.leaf_step-inputs.ensures ∙ ap leaf_step n.node_at-n.ensures) ∙ sym (sum_more i (λ k. leaf_step (node_at a.nodes.now k))),
+      ap₂ (λ (x : ℕ) (y : ℕ). x + y) lp.loop-i.invariant.3 (ap (λ (m : Node). m.count) n.node_at-n.ensures) ∙ sym (sum_more i (λ k. (node_at a.nodes.now k).count)),
+      omega (arith, lp.loop-i.invariant.4, c.leaf_step-inputs.ensures, step_small n.node_at-n.result),
+      omega (arith, lp.loop-i.invariant.5, small),
+    )
+
+pub returns : goal.returns
+unfolding nodes_ok
+returns c =
+    let lp = c in
+    let a = c.args in
+    let q : lp.loop-i.i ≡ a.c.nodes = le_antisymm lp.loop-i.invariant.0 c.loop-i-test.false in
+    and_then _ _ _
+    (ap (λ (k : ℕ). all_below k (node_ok_at (node_at a.nodes.now) a.keys.now a.marks.now a.c.cells)) (sym q) ∙ lp.loop-i.invariant.1)
+    (ap₂ (λ (x : ℕ) (y : ℕ). eqb x a.c.inputs && eqb y a.c.cells)
+    (lp.loop-i.invariant.2 ∙ ap (leaves_before (node_at a.nodes.now)) q) (lp.loop-i.invariant.3 ∙ ap (cells_before (node_at a.nodes.now)) q))
