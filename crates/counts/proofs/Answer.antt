@@ -21,7 +21,7 @@ use Rattle.facts.specs.Facts.{TableFacts}
 use Rattle.facts.proofs.Facts.{table_facts, used_length, words_fit}
 use Rattle.count.specs.Run.{Fit, Here}
 use Rattle.runs.specs.Met.{Met}
-use Rattle.runs.proofs.Met.{is_2, is_3, is_4, is_5, is_1, is_room}
+use Rattle.runs.proofs.Meets.{is_2, is_3, is_4, is_5, is_1, is_room}
 use Rattle.runs.specs.Used.{run_of}
 use Rattle.runs.proofs.Used.{fit_of, nodes_length, same_node, back, work_long}
 

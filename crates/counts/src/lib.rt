@@ -1,4 +1,6 @@
 // The unweighted demand as a public call: on any rows and numbers, with document 01's refusals in its order.
+#![tactic(auto)]
+
 ghost use Rattle.std.specs.Prelude.{◌≡◌, ℕ, ◌+◌, ◌<◌, ◌≤◌, ◌^◌, length};
 ghost use Rattle.paper.specs.Rows.{con_lits};
 ghost use Rattle.paper.specs.Plain.{lit_at, want_of, plain_run};

@@ -1,4 +1,6 @@
 // What the demands share: copies of the cells for the dry run, and in specs/ the laws of both runs.
+#![tactic(auto)]
+
 ghost use Rattle.std.specs.Prelude.{◌≡◌, length};
 ghost use Rattle.paper.specs.Rows.{con_lits};
 ghost use Rattle.paper.specs.Plain.{lit_at};

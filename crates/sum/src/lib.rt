@@ -1,5 +1,7 @@
 // The weighted run: the demand of an output and its walk over the ways to make up its value call each other, and the node id falls at
 // each round. A unit below is left to the unweighted run.
+#![tactic(auto)]
+
 ghost use Rattle.std.specs.Prelude.{◌≡◌, ℕ, ◌+◌, ◌≤◌, ◌^◌, length};
 ghost use Rattle.paper.specs.Rows.{con_lits};
 ghost use Rattle.paper.specs.Plain.{lit_at};

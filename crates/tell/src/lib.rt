@@ -1,5 +1,7 @@
 // What a call says, told in numbers to programs in other languages: document 01's number, what is given back (0 where nothing is), and the
 // counters. The array of counters holds first, next, last, nodes, inputs, cells, words.
+#![tactic(auto)]
+
 ghost use Rattle.std.specs.Prelude.{◌≡◌, pos};
 ghost use Rattle.paper.specs.Numbers.{number_of, added_said, begun_said, demanded_said, kept_said};
 ghost use Rattle.tell.specs.Tell.{counters_of, numbers_of, semantics_of, Told, WorthTold};

@@ -1,0 +1,14 @@
+use mathlib.Core.Path.{◌≡◌, refl, ◌∙◌}
+use Prim.Native.Nat.{◌-◌, ◌≤◌}
+use native.Mathlib.Omega.{arith}
+use lib.ListN.{length, take, length-set}
+use lib.IntN.{pos}
+use mir.Facts.{to_z-of_z}
+use Rattle.runs.proofs.Copy.{copy_turn, copy_end}
+use Rattle.runs.proofs.copy_lits.Given as goal
+
+abbrev pub invariant-loop-k : goal.invariant-loop-k
+invariant-loop-k l = (l.k ≤ length l.src) × (length l.dst ≡ length l.initial.dst) × (take l.k l.dst ≡ take l.k l.src)
+
+abbrev pub decreases-loop-k : goal.decreases-loop-k
+decreases-loop-k l = length l.src - l.k
