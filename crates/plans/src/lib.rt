@@ -1,5 +1,7 @@
 // The plan language: its commands, the words and numbers of a line, and what a call says. Nothing here reads or writes a file;
 // the program over it does.
+#![tactic(auto)]
+
 mod answer;
 mod decimal;
 mod scan;
@@ -10,7 +12,7 @@ use paper::{Counters, Pair, Semantics};
 pub use scan::{ended, next_word, text_of};
 
 // What a call says: document 01's number, what it gives back, and the counters after it.
-#[derive(Drop)]
+#[derive(Clone, Copy)]
 pub struct Said {
     pub number: usize,
     pub minus: bool,
@@ -19,27 +21,27 @@ pub struct Said {
 }
 
 // The bytes of a line from `from` up to, and without, `to`.
-#[derive(Drop)]
+#[derive(Clone, Copy)]
 pub struct Part {
     pub from: usize,
     pub to: usize,
 }
 
 // What a word says: a number, or none that fits.
-#[derive(Drop)]
+#[derive(Clone, Copy)]
 pub enum Number {
     Is(usize),
     Not,
 }
 
-#[derive(Drop)]
+#[derive(Clone, Copy)]
 pub enum Signed {
     Whole(i32),
     Wrong,
 }
 
 // The lengths of the rows that are lent, in the order of `rows`.
-#[derive(Drop)]
+#[derive(Clone, Copy)]
 pub struct Lengths {
     pub nodes: usize,
     pub inputs: usize,
@@ -52,7 +54,7 @@ pub struct Lengths {
 }
 
 // The rows that `poke` writes to.
-#[derive(Drop)]
+#[derive(Clone, Copy)]
 pub enum Row {
     Words,
     Inputs,
@@ -63,7 +65,7 @@ pub enum Row {
 }
 
 // What `set` writes.
-#[derive(Drop)]
+#[derive(Clone, Copy)]
 pub enum Counter {
     First,
     Next,
@@ -76,7 +78,7 @@ pub enum Counter {
     WorkByte,
 }
 
-#[derive(Drop)]
+#[derive(Clone, Copy)]
 pub enum Command {
     // An empty line or a comment.
     Pass,

@@ -1,5 +1,7 @@
 // The table check over a lent row of node records, one record for each node. `check_records` walks the row; what it does
 // with a record is in `begin`, `step` and `finish`, which know of one record and its children only.
+#![tactic(auto)]
+
 ghost use Rattle.std.specs.Prelude.{◌≡◌, ◌+◌, ◌<◌, ◌≤◌, length};
 ghost use Rattle.paper.specs.Table.{leaf_step};
 ghost use Rattle.records.specs.Table.{earlier_of, node_of, begin_of, passed_of, step_of, finish_of, records_ok};
