@@ -1,6 +1,8 @@
 // The calls for programs in other languages, on numbers and slices: `rt staticlib totdb` makes libtotdb.a of them. Each is the call of
 // crate door, and answers document 01's number; what is given back and the counters go through the last parameters. `counters` holds
 // first, next, last, nodes, inputs, cells, words. A refused call leaves the counters as they were, and gives back 0.
+#![tactic(auto)]
+
 ghost use Rattle.std.specs.Prelude.{◌≡◌, pos};
 ghost use Rattle.paper.specs.Calls.{Db, check_call, fresh_step, unweighted_call, weighted_call, value_call, empty_call};
 ghost use Rattle.door.specs.Door.{db, work};

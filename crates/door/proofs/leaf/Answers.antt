@@ -1,0 +1,11 @@
+use mir.Syntax.{w32}
+use mir.ValLaws.{to_z-of_z}
+use Rattle.door.proofs.Laws.{leaf_met}
+use borrow.Author.Rules.{rules}
+use Rattle.door.proofs.leaf.Goals as goal
+
+pub returns : goal.returns
+returns c =
+    let s = c in
+    let e = c.leaf.ensures in
+    leaf_met _ s.args.x _ _ _ _ (to_z-of_z w32 s.args.x s.ranges.x) e.0 e.1 e.2

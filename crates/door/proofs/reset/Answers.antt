@@ -1,0 +1,6 @@
+use Rattle.door.proofs.Laws.{reset_met}
+use borrow.Author.Rules.{rules}
+use Rattle.door.proofs.reset.Goals as goal
+
+pub returns : goal.returns
+returns c = let e = c.reset.ensures in reset_met _ _ _ e.0 e.1
