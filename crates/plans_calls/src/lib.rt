@@ -1,4 +1,6 @@
 // The public calls of document 01, by the commands of a plan.
+#![tactic(auto)]
+
 use paper::Counters;
 use plans::{Command, Said};
 

@@ -1,4 +1,6 @@
 // A line of a plan is read into a command: it is a name, then its words, then nothing more.
+#![tactic(auto)]
+
 use paper::{Pair, Semantics};
 use plans::{
     Command, Counter, Lengths, Number, Part, Row, Signed, digits_only, ended, next_word,
@@ -6,19 +8,19 @@ use plans::{
 };
 
 // A number and where it ends.
-#[derive(Drop)]
+#[derive(Clone, Copy)]
 enum Next {
     Has(usize, usize),
     Hasnot,
 }
 
-#[derive(Drop)]
+#[derive(Clone, Copy)]
 enum Numbers {
     Both(usize, usize),
     NotTwo,
 }
 
-#[derive(Drop)]
+#[derive(Clone, Copy)]
 enum Quad {
     All(usize, usize, usize, usize, usize),
     NotFour,

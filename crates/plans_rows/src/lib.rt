@@ -1,4 +1,6 @@
 // The rows as they are lent, and the commands that are for the plans alone: `rows`, `poke`, `set`.
+#![tactic(auto)]
+
 ghost use Rattle.std.specs.Prelude.{◌≤◌};
 ghost use Rattle.plans_rows.specs.Fronts.{Front};
 
@@ -7,7 +9,7 @@ use plans::{Command, Counter, Lengths, Number, Row, Signed};
 use plans_text::put_plain;
 
 // The counters, the lengths of the rows from now on, and how much of the output's buffer is in use.
-#[derive(Drop)]
+#[derive(Clone, Copy)]
 pub struct Stage {
     pub c: Counters,
     pub n: Lengths,

@@ -1,9 +1,7 @@
 // Standard input, line by line, through a buffer.
-use libc::STDIN_FILENO;
-
 // `at` and `have` are of the buffer. `len` is of the line, one more than the line can hold where it is longer than that.
 // `ended`: the line is whole. `done`: the input is at its end.
-#[derive(Drop)]
+#[derive(Clone, Copy)]
 pub struct Source {
     pub at: usize,
     pub have: usize,
@@ -26,8 +24,7 @@ fn fill(read: &mut [u8], s: Source) -> Source {
     if s.at < s.have {
         return s;
     }
-    let got = libc::read(STDIN_FILENO, read);
-    let n = io::count(got, read);
+    let n = io::read_full(0, read);
     Source {
         at: 0,
         have: n,

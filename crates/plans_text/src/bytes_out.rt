@@ -1,15 +1,13 @@
 // Standard output, through a buffer: each function answers how much of it is in use.
 ghost use Rattle.io.specs.Counts.{IsPrefixLen};
 
-use libc::STDOUT_FILENO;
-
 pub fn put(out: &mut [u8], at: usize, b: u8) -> usize {
     let n = out.len();
     if at < n {
         out[at] = b;
         return at + 1;
     }
-    io::write_all(STDOUT_FILENO, out);
+    io::write_all(1, out);
     if 0 < n {
         out[0] = b;
         return 1;
@@ -26,7 +24,7 @@ fn within(n: usize, out: &[u8]) -> usize
 
 pub fn flush(out: &[u8], at: usize) {
     let n = within(at, out);
-    io::write_all(STDOUT_FILENO, &out[..n]);
+    io::write_all(1, &out[..n]);
 }
 
 pub fn put_text(out: &mut [u8], at: usize, s: &[u8]) -> usize {

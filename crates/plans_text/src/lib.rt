@@ -1,4 +1,6 @@
 // Standard input line by line, and the lines that go to standard output, each through a buffer.
+#![tactic(auto)]
+
 mod bytes_in;
 mod bytes_out;
 mod lines;

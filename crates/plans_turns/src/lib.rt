@@ -1,4 +1,6 @@
 // A plan carried out: each line, on the rows as they are lent.
+#![tactic(auto)]
+
 use plans::{Command, Lengths, Row};
 use plans_rows::{
     Stage, bytes_to_read, front_bytes, front_ints, front_words, ints_to_read, words_to_read,

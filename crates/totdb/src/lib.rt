@@ -1,4 +1,4 @@
-// The calls for programs in other languages, on numbers and slices: `rt staticlib totdb` makes libtotdb.a of them. Each is the call of
+// The calls for programs in other languages, on numbers and slices: crate totdb_c exports them, each under its name. Each is the call of
 // crate door, and answers document 01's number; what is given back and the counters go through the last parameters. `counters` holds
 // first, next, last, nodes, inputs, cells, words. A refused call leaves the counters as they were, and gives back 0.
 #![tactic(auto)]
@@ -12,8 +12,7 @@ ghost use Rattle.totdb.specs.Foreign.{pair_of, LeafTold, DummyTold, InnerTold, D
 use paper::Pair;
 
 // The table check: 0 or 2.
-#[unsafe(no_mangle)]
-pub extern "C" fn totdb_check(
+pub fn totdb_check(
     nodes: &[u32],
     inputs: &[i32],
     keys: &[u32],
@@ -33,8 +32,7 @@ pub extern "C" fn totdb_check(
 }
 
 // Begins a table; what the counters held does not matter. 0 or 15.
-#[unsafe(no_mangle)]
-pub extern "C" fn totdb_fresh(counters: &mut [usize; 7], first: usize, last: usize) -> u32
+pub fn totdb_fresh(counters: &mut [usize; 7], first: usize, last: usize) -> u32
     ensures { (d : Db) → d.counters ≡ counters_of counters.old → Told (fresh_step d first last).said result (pos 0) counters.new }
 {
     let c = tell::counters_of(counters);
@@ -43,8 +41,7 @@ pub extern "C" fn totdb_fresh(counters: &mut [usize; 7], first: usize, last: usi
 }
 
 // Gives the leaf's id. 2, 6, 11.
-#[unsafe(no_mangle)]
-pub extern "C" fn totdb_leaf(
+pub fn totdb_leaf(
     nodes: &mut [u32],
     inputs: &mut [i32],
     keys: &[u32],
@@ -64,8 +61,7 @@ pub extern "C" fn totdb_leaf(
 }
 
 // Gives the dummy's id. 2, 11.
-#[unsafe(no_mangle)]
-pub extern "C" fn totdb_dummy(
+pub fn totdb_dummy(
     nodes: &mut [u32],
     inputs: &[i32],
     keys: &[u32],
@@ -84,8 +80,7 @@ pub extern "C" fn totdb_dummy(
 }
 
 // Gives the new node's id. 2, 4, 7, 8, 9, 10, 11.
-#[unsafe(no_mangle)]
-pub extern "C" fn totdb_inner(
+pub fn totdb_inner(
     nodes: &mut [u32],
     inputs: &[i32],
     keys: &mut [u32],
@@ -122,8 +117,7 @@ pub extern "C" fn totdb_inner(
 }
 
 // Gives the output's literal. `demand` as `tell::semantics_of` has it. 2, 3, 4, 5, 1, 12, 13.
-#[unsafe(no_mangle)]
-pub extern "C" fn totdb_define_unweighted(
+pub fn totdb_define_unweighted(
     nodes: &[u32],
     inputs: &[i32],
     keys: &[u32],
@@ -150,8 +144,7 @@ pub extern "C" fn totdb_define_unweighted(
 }
 
 // Gives the output's literal. 2, 3, 4, 1, 12, 13.
-#[unsafe(no_mangle)]
-pub extern "C" fn totdb_define_weighted(
+pub fn totdb_define_weighted(
     nodes: &[u32],
     inputs: &[i32],
     keys: &[u32],
@@ -176,8 +169,7 @@ pub extern "C" fn totdb_define_weighted(
 }
 
 // 2, 3, 4, 12.
-#[unsafe(no_mangle)]
-pub extern "C" fn totdb_reserve_vars(
+pub fn totdb_reserve_vars(
     nodes: &[u32],
     inputs: &[i32],
     keys: &[u32],
@@ -200,8 +192,7 @@ pub extern "C" fn totdb_reserve_vars(
 }
 
 // Gives the node's value. 2, 3, 4, 14.
-#[unsafe(no_mangle)]
-pub extern "C" fn totdb_value(
+pub fn totdb_value(
     nodes: &[u32],
     inputs: &[i32],
     keys: &[u32],
@@ -226,8 +217,7 @@ pub extern "C" fn totdb_value(
 }
 
 // 2.
-#[unsafe(no_mangle)]
-pub extern "C" fn totdb_reset(
+pub fn totdb_reset(
     nodes: &[u32],
     inputs: &[i32],
     keys: &[u32],
@@ -245,8 +235,7 @@ pub extern "C" fn totdb_reset(
 }
 
 // 2.
-#[unsafe(no_mangle)]
-pub extern "C" fn totdb_empty_clauses(
+pub fn totdb_empty_clauses(
     nodes: &[u32],
     inputs: &[i32],
     keys: &[u32],

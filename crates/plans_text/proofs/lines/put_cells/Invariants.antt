@@ -1,0 +1,11 @@
+use Prim.Native.Nat.{◌≤◌, ◌-◌}
+use mathlib.Core.Path.{◌≡◌}
+use lib.ListN.{length}
+use borrow.Author.Rules.{rules}
+use Rattle.plans_text.proofs.lines.put_cells.Given as goal
+
+abbrev pub invariant-loop-i : goal.invariant-loop-i
+invariant-loop-i l = ((l.end ≤ length l.keys) × (l.end ≤ length l.lits)) × ((l.end ≤ length l.marks) × (length l.out ≡ length l.initial.out))
+
+abbrev pub decreases-loop-i : goal.decreases-loop-i
+decreases-loop-i l = l.end - l.i

@@ -1,0 +1,6 @@
+use Rattle.totdb.proofs.Telling.{unweighted_told}
+use borrow.Author.Rules.{rules}
+use Rattle.totdb.proofs.totdb_define_unweighted.Goals as goal
+
+pub returns : goal.returns
+returns c = unweighted_told _ _ _ _ _ _ _ _ _ _ _ _ _ _ _ _ _ _ _ _ c.counters_of-c.ensures c.semantics_of-semantics.ensures c.define_unweighted-said.ensures c.say_demanded.ensures

@@ -1,0 +1,6 @@
+use Rattle.totdb.proofs.Telling.{fresh_told}
+use borrow.Author.Rules.{rules}
+use Rattle.totdb.proofs.totdb_fresh.Goals as goal
+
+pub returns : goal.returns
+returns c = fresh_told _ _ _ _ _ _ _ c.counters_of-c.ensures c.fresh-said.ensures c.say_begun.ensures
