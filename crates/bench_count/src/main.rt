@@ -5,6 +5,8 @@
 //   b, B: both directions, in earnest; and dry
 //   r: no demand: what clearing and checking the rows takes
 //   anything else: i, I, b and B, one after the other
+#![tactic(auto)]
+
 ghost use Rattle.std.specs.Prelude.{◌≡◌, true, ℕ, ◌/◌, ◌≤◌, length};
 ghost use Rattle.count.specs.Run.{Fit};
 ghost use Rattle.bench_count.specs.Ready.{node_fit, nodes_fit, from};

@@ -8,6 +8,8 @@
 // For a to e every output below is demanded before, so that a demand appends its own clauses only: one for each pair l + r = v,
 // and one for each side that has v alone. Of v up to 1023 there are v - 1 pairs and both sides alone: 3, 513, 1024 clauses; of
 // 2046 one pair, of 1200 three. A pair takes four words, a side alone three.
+#![tactic(auto)]
+
 ghost use Rattle.std.specs.Prelude.{◌≤◌};
 ghost use Rattle.count.specs.Run.{Fit};
 ghost use Rattle.sum.specs.Ways.{Generals};

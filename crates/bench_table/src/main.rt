@@ -4,6 +4,8 @@
 //   a, b: checks of 4602 and of 9149 cells, the most of them in one general node over 63 and 68, or 63 and 136 values
 //   c, d: checks of 4082 and of 8177 cells, in general nodes with one leaf each on the right
 //   e, f: the general node of a, of b, added
+#![tactic(auto)]
+
 ghost use Rattle.std.specs.Prelude.{◌≤◌};
 
 use paper::{Added, Begun, Counters, Pair};

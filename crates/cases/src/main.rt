@@ -1,5 +1,7 @@
 // The cases of document 01: plays plans as `replay` does, and writes each line with its answer beside it. What the
 // working area holds at first is no part of an answer: here it is full of other numbers.
+#![tactic(auto)]
+
 fn main() {
     let mut nodes = [0u32; 32776];
     let mut inputs = [0i32; 4097];

@@ -1,5 +1,5 @@
 -- 01: reserve, reset, emptying, value. "reserve 2, 3, 4, 12; value 2, 3, 4, 14; reset and emptying the clauses 2".
-use Rattle.std.specs.Prelude.{ℕ, zero, suc, ◌+◌, ◌-◌, ◌*◌, List, [], ◌∷◌, ◌++◌, Bool, true, cond, ◌&&◌, length, get_or, replicate, eqb, leb, ltb, ℤ, pos, nat_abs}
+use Rattle.std.specs.Prelude.{ℕ, zero, suc, ◌+◌, ◌-◌, ◌*◌, List, [], ◌∷◌, ◌++◌, Bool, cond, ◌&&◌, length, get_or, replicate, eqb, leb, ltb, ℤ, pos, nat_abs}
 use Rattle.std.proofs.Math.Seq.{paste}
 use Rattle.paper.specs.Below.{all_below}
 use Rattle.paper.specs.Rows.{node_at, is_leaf, is_dummy, is_neg}

@@ -1,5 +1,6 @@
 // The types of the database and of its calls, and the limits. Each has its meaning in specs/, where document 01 is
 // written down as definitions that compute; the code that meets them is in the crates above this one.
+#![tactic(auto)]
 
 // "Limits: 4,096 nodes; 16,384 cells; depth 64; multiplier 1 to 65,535; key at most 2,147,483,647."
 // specs/Limits.antt names the same numbers for the definitions.

@@ -1,5 +1,7 @@
 // Runs of the table check on the same tables, over the words and over the records. Each line is a table, with the verdict
 // of each. The expected output is written from document 01.
+#![tactic(auto)]
+
 ghost use Rattle.std.specs.Prelude.{◌≡◌};
 ghost use Rattle.records.specs.Table.{records_ok};
 

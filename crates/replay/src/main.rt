@@ -1,6 +1,8 @@
 // Replays a plan: reads commands on standard input, one a line, carries each out by the public calls, and writes one line
 // for each, `NUMBER ANSWER | WORDS | NEXT`, to standard output. The rows lie here, one node, input and cell longer than the
 // limits, so that it is a limit that refuses.
+#![tactic(auto)]
+
 fn main() {
     let mut nodes = [0u32; 32776];
     let mut inputs = [0i32; 4097];

@@ -12,17 +12,16 @@ use Rattle.std.proofs.lemmas.List.Edits.{sets}
 use Rattle.std.proofs.Math.Seq.{set_out}
 use Rattle.paper.specs.Span.{over}
 use Rattle.paper.specs.Rows.{node_at, con_lits, is_leaf, is_zero}
-use Rattle.paper.specs.Plain.{St, grow, words_of, if_clause, only_clause, clause1, clause2, clause3, lit_at, has_none, taken_lits, emit_if, emit_only, emit_both, finish_of, define}
-use Rattle.paper.specs.Weighted.{take_lit_at, mark_at, emit_way, clause_at, weigh}
+use Rattle.paper.specs.Plain.{St, grow, words_of, if_clause, only_clause, clause1, clause2, clause3, lit_at, has_none, taken_lits, emit_if, emit_only, emit_both, finish_of}
+use Rattle.paper.specs.Weighted.{take_lit_at, mark_at, emit_way, clause_at}
 use Rattle.paper.specs.declared.Want.{Want}
 use Rattle.paper.specs.declared.Todo.{Todo}
 use Rattle.paper.specs.declared.Clause.{Clause}
 use Rattle.paper.specs.declared.Way.{Way}
-use Rattle.facts.specs.Sinks.{through}
 use Rattle.facts.proofs.Sinks.{over_rel, both_define, both_weigh, define_hom, weigh_hom}
-use Rattle.clause.specs.Row.{Row, lay, at_row}
+use Rattle.clause.specs.Row.{lay, at_row}
 use Rattle.count.specs.Run.{outs}
-use Rattle.runs.specs.Counts.{AnyRun, Like, Runs, Sum, counting, laid, tally, weighing, zeros}
+use Rattle.runs.specs.Counts.{Like, Runs, Sum, counting, laid, tally, weighing, zeros}
 
 -- ---- clauses in a row: the words from w on, as far as the row goes
 

@@ -1,7 +1,6 @@
 -- What a dry run and a run in earnest tell, by the plain run: of any run that has the laws of `Runs`.
-use Rattle.std.specs.Prelude.{◌≡◌, refl, List, ℕ, ◌+◌, ◌-◌, ◌≤◌, ◌<◌, ◌^◌, min, ℤ, length}
+use Rattle.std.specs.Prelude.{◌≡◌, refl, List, ℕ, ◌+◌, ◌≤◌, ◌<◌, ◌^◌, min, ℤ, length}
 use Rattle.std.proofs.Common.{sym, ap, ◌∙◌, le_refl, arith, length-append}
-use Rattle.std.proofs.lemmas.List.Edits.{sets}
 use Rattle.paper.specs.Plain.{St, grow, start, words_of}
 use Rattle.paper.specs.declared.Run.{Run}
 use Rattle.clause.specs.Row.{Row, lay, at_row}

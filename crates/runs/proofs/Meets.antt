@@ -2,14 +2,12 @@
 use Rattle.std.specs.Prelude.{◌≡◌, List, Bool, true, false, ℕ, ◌+◌, ◌≤◌, ◌<◌, ℤ}
 use borrow.Author.Tests.{le-leb, lt-leb}
 use Rattle.std.proofs.Math.ListN.{length}
-use Rattle.std.proofs.lemmas.List.Edits.{sets}
 use Rattle.paper.specs.Plain.{St}
-use Rattle.paper.specs.Demand.{ran_counters, room_of, demanded_of, demanded_row}
+use Rattle.paper.specs.Demand.{ran_counters, room_of, demanded_of}
 use Rattle.paper.specs.declared.Counters.{Counters}
 use Rattle.paper.specs.declared.Refusal.TheVariants.{NoSuchOutput, TableFails, WorkShort, NoSuchNode, GeneralNode, VariablesOut, ClausesShort}
 use Rattle.paper.specs.declared.Demanded.{Demanded}
 use Rattle.paper.specs.declared.Demanded.TheVariants.{Given, NotGiven}
-use Rattle.runs.specs.Met.{Met}
 
 -- "12 and 13 are given exactly if the plain run with unlimited room takes more variables or words than remain."
 module _ (p : St (List ℤ)) (c : Counters) (len : ℕ) (z : ℤ) where

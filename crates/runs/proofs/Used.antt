@@ -8,7 +8,6 @@ use Rattle.paper.specs.Limits.{node_words}
 use Rattle.paper.specs.Rows.{node_at, value_count}
 use Rattle.paper.specs.Demand.{nodes_used, inputs_used, cells_used, demanded_row}
 use Rattle.paper.specs.declared.Node.{Node}
-use Rattle.paper.specs.declared.Run.{Run}
 use Rattle.paper.specs.declared.Counters.{Counters}
 use Rattle.paper.specs.declared.Demanded.{Demanded}
 use Rattle.paper.specs.declared.Demanded.TheVariants.{Given, NotGiven}

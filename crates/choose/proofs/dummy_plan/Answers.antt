@@ -1,6 +1,4 @@
 use mathlib.Core.Path.{refl, sym, ap, ◌∙◌}
-use borrow.Author.Rules.{rules}
-use borrow.Author.Tests.{not-true, not-false}
 use Rattle.paper.specs.Grow.{dummy_plan}
 use Rattle.paper.specs.declared.Choice.TheVariants.{Old}
 use Rattle.choose.proofs.Choose.{table_fails, found_old, makes_new, room_fails}

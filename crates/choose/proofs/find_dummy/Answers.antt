@@ -1,13 +1,9 @@
-use Prim.Native.Nat.{ℕ, ◌-◌, ◌≤◌}
 use native.Mathlib.Omega.{arith}
-use mathlib.Core.Path.{◌≡◌, sym, ap, ◌∙◌}
+use mathlib.Core.Path.{sym, ap, ◌∙◌}
 use lib.Dec.{eqb}
-use borrow.Author.Rules.{rules}
 use borrow.Author.Tests.{eq-eqb, ne_eqb}
-use Rattle.paper.specs.Rows.{node_at}
 use Rattle.paper.specs.declared.Node.{Node}
-use Rattle.paper.specs.Below.{first_below}
-use Rattle.choose.proofs.Search.{first_none, first_more, first_found, first_end}
+use Rattle.choose.proofs.Search.{first_none, first_more, first_found}
 use Rattle.choose.proofs.find_dummy.Goals as goal
 
 pub loop-i-init : goal.loop-i-init

@@ -1,16 +1,8 @@
-use borrow.Author.Rules.{rules}
-use mathlib.Core.Path.{◌≡◌, refl, sym, ap, ap₂, ◌∙◌}
-use mathlib.Core.List.{List}
-use Prim.Native.Nat.{ℕ, ◌+◌, ◌-◌, ◌≤◌, ◌<◌, ◌^◌, min}
-use native.Mathlib.Nat.{add-zero}
-use native.Mathlib.Omega.{arith}
-use lib.ListN.{length, drop, set}
+use mathlib.Core.Path.{◌≡◌}
+use Prim.Native.Nat.{◌+◌, ◌-◌, ◌≤◌}
+use lib.ListN.{length, drop}
 use lib.Seq.{sets}
-use lib.IntN.{ℤ}
-use mir.Facts.{to_z-of_z}
-use Rattle.paper.specs.Plain.{words_of, lit_at}
-use Rattle.clause.specs.Row.{lay, at_row}
-use Rattle.clause.proofs.Laws.{told, words_length, words_at, words_last, left_step}
+use Rattle.paper.specs.Plain.{words_of}
 use Rattle.clause.proofs.append.Given as goal
 
 abbrev pub invariant-loop-k : goal.invariant-loop-k

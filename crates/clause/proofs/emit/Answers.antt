@@ -3,7 +3,6 @@ use mir.Facts.{to_z-of_z}
 use Rattle.paper.specs.Plain.{emit_if, emit_only}
 use Rattle.clause.specs.Row.{lay, at_row}
 use Rattle.clause.proofs.Laws.{both_2, both_if, both_only, both_none}
-use borrow.Author.Rules.{rules}
 use Rattle.clause.proofs.emit.Goals as goal
 
 pub returns-then-want-2 : goal.returns-then-want-2

@@ -1,15 +1,13 @@
 use Rattle.clause.proofs.Laws.{only_is}
-use Rattle.facts.proofs.Ranges.{loop_low, loop_split, split_below}
-use mathlib.Core.Path.{◌≡◌, refl, ap, ◌∙◌}
+use mathlib.Core.Path.{ap, ◌∙◌}
 use mathlib.Core.List.{List}
-use Prim.Native.Nat.{ℕ, ◌-◌, ◌≤◌, ◌^◌}
+use Prim.Native.Nat.{ℕ, ◌-◌}
 use native.Mathlib.Omega.{arith}
-use lib.ListN.{length}
 use lib.IntN.{ℤ}
 use mir.Syntax.{w32}
 use mir.Val.{to_z, of_z}
 use mir.Facts.{to_z-of_z}
-use Rattle.paper.specs.Span.{span, span_turn, span_end}
+use Rattle.paper.specs.Span.{span_turn, span_end}
 use Rattle.paper.specs.Plain.{only_clause}
 use Rattle.clause.specs.Row.{lay, at_row, Row}
 use Rattle.clause.proofs.Laws.{only_len, counted_after}

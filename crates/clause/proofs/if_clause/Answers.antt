@@ -1,11 +1,10 @@
 use Prim.Native.Nat.{◌-◌}
 use Rattle.clause.proofs.Laws.{clause3_eq}
-use Rattle.clause.proofs.Laws.{told, neg_fits, neg_back, if_1, if_r, if_l, if_2}
+use Rattle.clause.proofs.Laws.{told, neg_back, if_1, if_r, if_l, if_2}
 use mathlib.Core.Path.{sym, ap, ap₂, ◌∙◌}
 use mir.Facts.{to_z-of_z}
 use Rattle.paper.specs.Plain.{clause1, clause2, lit_at}
 use native.Mathlib.Omega.{arith}
-use borrow.Author.Rules.{rules}
 use Rattle.clause.proofs.if_clause.Goals as goal
 
 pub returns-then-y-eq0 : goal.returns-then-y-eq0

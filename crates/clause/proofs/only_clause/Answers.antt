@@ -1,9 +1,8 @@
 use Rattle.clause.proofs.Laws.{clause3_eq}
-use Rattle.clause.proofs.Laws.{told, neg_fits, neg_back, only_1, only_r, only_l, only_2}
+use Rattle.clause.proofs.Laws.{told, neg_back, only_1, only_r, only_l, only_2}
 use mathlib.Core.Path.{sym, ap, ap₂, ◌∙◌}
 use mir.Facts.{to_z-of_z}
 use Rattle.paper.specs.Plain.{clause1, clause2}
-use borrow.Author.Rules.{rules}
 use Rattle.clause.proofs.only_clause.Goals as goal
 
 pub returns-then-y-right : goal.returns-then-y-right

@@ -1,18 +1,15 @@
-use borrow.Author.Rules.{rules}
-use mathlib.Core.Path.{◌≡◌, refl, sym, ◌∙◌, subst}
+use mathlib.Core.Path.{refl, sym, ◌∙◌}
 use mathlib.Core.List.{List}
-use Prim.Native.Nat.{◌+◌, ◌*◌, ◌-◌, ◌/◌, ◌≤◌}
+use Prim.Native.Nat.{◌-◌}
 use native.Mathlib.Omega.{arith}
-use lib.ListN.{length}
 use lib.IntN.{ℤ}
-use Rattle.paper.specs.Span.{span, span_turn, span_end}
-use Rattle.count.specs.Run.{Fit, Ok}
+use Rattle.paper.specs.Span.{span_turn, span_end}
 use Rattle.paper.specs.Plain.{define, demands_of, St}
 use Rattle.clause.specs.Row.{lay, Row}
 use Rattle.count.specs.Run.{state}
 use Rattle.count.proofs.Laws.{pass_ok, walk_is_ok, return_is, pass_is, continue_is, walk_is, pass_ends, walk_ends, turn_ends, next_by, ends_1, ends_2, ends_3, ends_4}
 use Rattle.paper.specs.declared.Want.{Want}
-use Prim.Native.Nat.{ℕ, ◌<◌}
+use Prim.Native.Nat.{ℕ}
 use Rattle.count.proofs.+define_unweighted_rec_recurse_span_recurse_unweighted.Goals as goal
 
 abbrev each : ℕ → List ℕ → List ℤ → ℕ → Want → ℕ → St Row → St Row

@@ -1,11 +1,9 @@
 use Rattle.paper.specs.declared.Node.{Node}
-use Rattle.count.proofs.Plan.{leaf_in, cells_in}
 use native.Mathlib.Omega.{arith}
 use borrow.Author.Tests.{eq-eqb, ne_eqb}
 use Rattle.paper.specs.Rows.{con_lits}
 use mathlib.Core.Path.{◌≡◌, sym, ap, ◌∙◌}
 use Prim.Native.Nat.{◌+◌, ◌-◌}
-use borrow.Author.Rules.{rules}
 use Rattle.count.proofs.con_lits.Goals as goal
 
 pub returns-then-n-eq0 : goal.returns-then-n-eq0

@@ -5,8 +5,7 @@ use native.Mathlib.Omega.{arith}
 use lib.ListN.{length, length-set, set}
 use mir.Facts.{to_z-of_z}
 use Rattle.paper.specs.Plain.{lit_at}
-use Rattle.count.proofs.Laws.{cell_in, cell_left, cell_right, fit_after, finish_is, finish_next}
-use borrow.Author.Rules.{rules}
+use Rattle.count.proofs.Laws.{cell_in, fit_after, finish_is, finish_next}
 use Rattle.count.proofs.encode_unweighted.Goals as goal
 
 pub overflow_add-at : goal.overflow_add-at

@@ -1,11 +1,8 @@
-use Rattle.count.proofs.Laws.{emit_of}
-use mathlib.Core.Path.{sym, ◌∙◌, subst}
+use mathlib.Core.Path.{sym, subst}
 use mathlib.Core.List.{List}
 use lib.IntN.{ℤ}
-use mir.Facts.{to_z-of_z}
 use Rattle.clause.specs.Row.{Neg}
 use Rattle.count.proofs.Laws.{neg_lits_of}
-use borrow.Author.Rules.{rules}
 use Rattle.count.proofs.own_clauses.Goals as goal
 
 pub emit-requires-clause-neg : goal.emit-requires-clause-neg

@@ -1,7 +1,5 @@
 use mathlib.Core.Path.{◌∙◌}
-use native.Mathlib.Omega.{arith}
-use Rattle.count.proofs.Plan.{unit_in, plan_is_unit, plan_not_unit}
-use borrow.Author.Rules.{rules}
+use Rattle.count.proofs.Plan.{plan_is_unit, plan_not_unit}
 use Rattle.count.proofs.precond_unweighted.Goals as goal
 
 pub returns-then-n-eq1 : goal.returns-then-n-eq1

@@ -1,5 +1,4 @@
 use Rattle.paper.specs.Plain.{has_only}
-use borrow.Author.Rules.{rules}
 use Rattle.count_plan.proofs.has_only.Goals as goal
 
 pub returns-in-Unmarked : goal.returns-in-Unmarked

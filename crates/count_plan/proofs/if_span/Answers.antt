@@ -1,8 +1,7 @@
 use Rattle.paper.specs.Plain.{if_span}
 use mathlib.Core.Path.{sym, ap, ◌∙◌}
 use Prim.Native.Nat.{ℕ, ◌+◌, ◌-◌}
-use Rattle.facts.proofs.Ranges.{loop_low, span_eq}
-use borrow.Author.Rules.{rules}
+use Rattle.facts.proofs.Ranges.{span_eq}
 use Rattle.count_plan.proofs.if_span.Goals as goal
 
 pub returns-then-x-eq0 : goal.returns-then-x-eq0

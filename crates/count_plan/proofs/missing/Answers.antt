@@ -1,5 +1,4 @@
 use Rattle.paper.specs.Plain.{missing_of}
-use borrow.Author.Rules.{rules}
 use Rattle.count_plan.proofs.missing.Goals as goal
 
 pub returns : goal.returns

@@ -1,8 +1,7 @@
 use Rattle.paper.specs.Plain.{only_span}
-use Rattle.facts.proofs.Ranges.{loop_low, span_eq}
+use Rattle.facts.proofs.Ranges.{span_eq}
 use mathlib.Core.Path.{ap}
 use Prim.Native.Nat.{ℕ, ◌-◌}
-use borrow.Author.Rules.{rules}
 use Rattle.count_plan.proofs.only_span.Goals as goal
 
 pub returns : goal.returns

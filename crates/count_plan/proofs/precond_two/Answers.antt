@@ -2,7 +2,6 @@ use mathlib.Core.Path.{ap, ap₂, ◌∙◌}
 use Rattle.paper.specs.Plain.{plan_two, ranges_of}
 use Rattle.paper.specs.declared.Precond.TheVariants.{Continue}
 use borrow.Author.Tests.{eq-eqb, ne_eqb}
-use borrow.Author.Rules.{rules}
 use Rattle.count_plan.proofs.precond_two.Goals as goal
 
 pub returns-then-l-eq3 : goal.returns-then-l-eq3

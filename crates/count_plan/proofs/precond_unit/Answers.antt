@@ -1,7 +1,6 @@
 use mathlib.Core.Path.{sym, ap₂, ◌∙◌}
 use Rattle.paper.specs.Plain.{plan_two}
 use Rattle.count_plan.proofs.Plan.{unit_fi, unit_fo, unit_none}
-use borrow.Author.Rules.{rules}
 use Rattle.count_plan.proofs.precond_unit.Goals as goal
 
 pub returns-then-w : goal.returns-then-w

@@ -1,5 +1,4 @@
 use Rattle.paper.specs.Plain.{ranges_of}
-use borrow.Author.Rules.{rules}
 use Rattle.count_plan.proofs.ranges_of.Goals as goal
 
 pub returns : goal.returns

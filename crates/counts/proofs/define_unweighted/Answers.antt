@@ -1,14 +1,12 @@
-use mathlib.Core.Path.{refl, sym, ap, ◌∙◌}
+use mathlib.Core.Path.{sym, ap, ◌∙◌}
 use Prim.Native.Nat.{◌≤◌, ◌<◌, ◌^◌}
 use native.Mathlib.Omega.{arith}
-use borrow.Author.Tests.{not-true, not-false}
 use lib.ListN.{length}
 use lib.Seq.{length-take-le}
 use Rattle.paper.specs.Rows.{node_at, value_count}
 use Rattle.paper.specs.Plain.{want_of}
 use Rattle.paper.specs.declared.Node.{Node}
 use Rattle.counts.proofs.Answer.{no_table, no_work, no_node, no_unit, no_output, answered, nodes_lent, inputs_lent, lits_lent, marks_lent, fits, here, room, bounds}
-use borrow.Author.Rules.{rules}
 use Rattle.counts.proofs.define_unweighted.Goals as goal
 
 pub returns-then-not-table_ok-clause-value : goal.returns-then-not-table_ok-clause-value

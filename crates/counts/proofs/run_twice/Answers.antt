@@ -9,11 +9,9 @@ use mir.Syntax.{w32}
 use mir.Facts.{to_z-of_z}
 use Rattle.paper.specs.Rows.{con_lits}
 use Rattle.paper.specs.Plain.{lit_at, plain_run}
-use Rattle.runs.proofs.Dry.{fit_dry}
 use Rattle.runs.proofs.Meets.{no_vars, no_room, all_given, given_is}
 use Rattle.runs.specs.Used.{run_of}
 use Rattle.counts.proofs.Twice.{dry_ends, real_ends, known, real}
-use borrow.Author.Rules.{rules}
 use Rattle.counts.proofs.run_twice.Goals as goal
 
 pub define_unweighted_rec-dry-requires-clause-ends : goal.define_unweighted_rec-dry-requires-clause-ends

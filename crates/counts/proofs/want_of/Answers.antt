@@ -1,5 +1,4 @@
 use Rattle.paper.specs.Plain.{want_of}
-use borrow.Author.Rules.{rules}
 use Rattle.counts.proofs.want_of.Goals as goal
 
 pub returns-in-If : goal.returns-in-If

@@ -1,5 +1,4 @@
 use Rattle.paper.specs.Calls.{checked}
-use borrow.Author.Rules.{rules}
 use Rattle.door.proofs.check.Goals as goal
 
 pub returns : goal.returns

@@ -1,5 +1,4 @@
 use Rattle.door.proofs.Laws.{unweighted_met}
-use borrow.Author.Rules.{rules}
 use Rattle.door.proofs.define_unweighted.Goals as goal
 
 pub returns : goal.returns

@@ -1,5 +1,4 @@
 use Rattle.door.proofs.Laws.{weighted_met}
-use borrow.Author.Rules.{rules}
 use Rattle.door.proofs.define_weighted.Goals as goal
 
 pub returns : goal.returns

@@ -1,6 +1,5 @@
 use Rattle.paper.specs.Calls.{dummy_call}
 use Rattle.door.specs.Door.{dummy_result}
-use borrow.Author.Rules.{rules}
 use Rattle.door.proofs.dummy.Goals as goal
 
 pub returns : goal.returns

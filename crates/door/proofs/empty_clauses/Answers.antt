@@ -1,5 +1,4 @@
 use Rattle.door.specs.Door.{empty_result}
-use borrow.Author.Rules.{rules}
 use Rattle.door.proofs.empty_clauses.Goals as goal
 
 pub returns : goal.returns

@@ -1,6 +1,5 @@
 use Rattle.paper.specs.Calls.{inner_call}
 use Rattle.door.specs.Door.{inner_result}
-use borrow.Author.Rules.{rules}
 use Rattle.door.proofs.inner.Goals as goal
 
 pub returns : goal.returns

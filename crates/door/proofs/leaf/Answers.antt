@@ -1,7 +1,6 @@
 use mir.Syntax.{w32}
 use mir.ValLaws.{to_z-of_z}
 use Rattle.door.proofs.Laws.{leaf_met}
-use borrow.Author.Rules.{rules}
 use Rattle.door.proofs.leaf.Goals as goal
 
 pub returns : goal.returns

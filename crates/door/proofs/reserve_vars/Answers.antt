@@ -1,5 +1,4 @@
 use Rattle.door.proofs.Laws.{reserve_met}
-use borrow.Author.Rules.{rules}
 use Rattle.door.proofs.reserve_vars.Goals as goal
 
 pub returns : goal.returns

@@ -1,5 +1,4 @@
 use Rattle.door.proofs.Laws.{reset_met}
-use borrow.Author.Rules.{rules}
 use Rattle.door.proofs.reset.Goals as goal
 
 pub returns : goal.returns

@@ -1,5 +1,4 @@
 use Rattle.door.specs.Door.{value_result}
-use borrow.Author.Rules.{rules}
 use Rattle.door.proofs.value.Goals as goal
 
 pub returns : goal.returns

@@ -1,8 +1,5 @@
-use native.Mathlib.Omega.{arith}
-use mathlib.Core.Path.{sym, ◌∙◌}
 use Prim.Native.Nat.{ℕ, ◌+◌, ◌-◌, ◌<◌, ◌≤◌}
 use lib.ListN.{get_or}
-use Rattle.find.proofs.Paper.{key_none, key_is, key_below, key_above, above, none_left}
 use Rattle.find.proofs.find_key.Given as goal
 
 abbrev pub invariant-loop-lo : goal.invariant-loop-lo

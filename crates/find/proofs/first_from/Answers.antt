@@ -1,7 +1,4 @@
 use native.Mathlib.Omega.{arith}
-use native.Mathlib.Nat.{mul-le-mul}
-use Prim.Native.Nat.{ℕ, ◌+◌, ◌-◌, ◌<◌, ◌≤◌, ◌^◌}
-use Rattle.paper.specs.Rows.{con_len, con_val}
 use Rattle.find.proofs.Pairs.{cut_below, cut_above}
 use Rattle.find.proofs.first_from.Goals as goal
 

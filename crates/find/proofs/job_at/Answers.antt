@@ -1,8 +1,6 @@
 use native.Mathlib.Omega.{arith}
 use mathlib.Core.Path.{refl, sym}
-use Prim.Native.Nat.{◌-◌, ◌/◌}
 use Rattle.find.proofs.Laws.{job_zero, job_count, job_sum, job_marked, job_other, cell_at}
-use borrow.Author.Rules.{rules}
 use Rattle.find.proofs.job_at.Goals as goal
 
 pub returns-then-y-eq0 : goal.returns-then-y-eq0

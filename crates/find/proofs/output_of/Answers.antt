@@ -1,8 +1,6 @@
 use native.Mathlib.Omega.{arith}
 use mathlib.Core.Path.{sym, ◌∙◌}
-use Prim.Native.Nat.{◌-◌, ◌/◌}
 use Rattle.find.proofs.Laws.{output_general, output_zero, output_past, output_at}
-use borrow.Author.Rules.{rules}
 use Rattle.find.proofs.output_of.Goals as goal
 
 pub returns-then-n-eq2 : goal.returns-then-n-eq2

@@ -1,6 +1,6 @@
 use native.Mathlib.Omega.{arith}
 use mathlib.Core.Path.{◌≡◌, sym, ap, ◌∙◌}
-use Prim.Native.Nat.{◌+◌, ◌-◌, ◌/◌}
+use Prim.Native.Nat.{◌+◌, ◌/◌}
 use Rattle.paper.specs.Weighted.{place_of}
 use Rattle.find.proofs.Laws.{share_yes, share_no, output_place, count_fits}
 use borrow.Author.Rules.{rules}

@@ -1,12 +1,10 @@
 use borrow.Author.Tests.{ltb-true, ltb-false, leb-true, leb-false}
 use native.Mathlib.Omega.{arith}
 use mathlib.Core.Path.{sym, ap, ◌∙◌}
-use Prim.Native.Nat.{ℕ, ◌+◌, ◌-◌, ◌*◌, ◌/◌, ◌<◌, ◌≤◌, ◌^◌}
+use Prim.Native.Nat.{ℕ, ◌+◌, ◌-◌, ◌*◌, ◌<◌, ◌≤◌}
 use Rattle.paper.specs.Rows.{value_count, con_val}
 use Rattle.paper.specs.Weighted.{joined, share_of}
 use Rattle.find.proofs.Laws.{way_both, way_over, way_left, way_right}
-use native.Mathlib.Nat.{mul-le-mul}
-use borrow.Author.Rules.{rules}
 use Rattle.find.proofs.way_two.Goals as goal
 
 pub returns-then-below : goal.returns-then-below

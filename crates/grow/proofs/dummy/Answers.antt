@@ -1,12 +1,9 @@
 use Rattle.paper.specs.Limits.{node_limit, node_words}
 use Prim.Native.Nat.{◌+◌, ◌*◌, ◌<◌, ◌≤◌}
 use native.Mathlib.Omega.{arith}
-use mathlib.Core.Path.{sym, ap, ◌∙◌}
+use mathlib.Core.Path.{sym, ◌∙◌}
 use lib.ListN.{length}
-use borrow.Author.Rules.{rules}
-use Rattle.paper.specs.declared.Node.{Node}
-use Rattle.paper.specs.Grow.{put_node, dummy_plan, dummy_added, dummy_nodes}
-use Rattle.paper.specs.declared.Choice.{Choice}
+use Rattle.paper.specs.Grow.{dummy_plan}
 use Rattle.grow.proofs.Choose.{new_rests, room_facts}
 use Rattle.grow.proofs.dummy.Goals as goal
 

@@ -1,5 +1,4 @@
 use mathlib.Core.Path.{sym, ◌∙◌}
-use borrow.Author.Rules.{rules}
 use Rattle.paper.specs.Grow.{fresh_of}
 use Rattle.grow.proofs.fresh.Goals as goal
 

@@ -1,10 +1,10 @@
-use Prim.Native.Nat.{ℕ, ◌+◌, ◌-◌, ◌≤◌}
+use Prim.Native.Nat.{ℕ, ◌+◌}
 use native.Mathlib.Omega.{arith}
-use mathlib.Core.Path.{◌≡◌, sym, ap, ◌∙◌}
+use mathlib.Core.Path.{sym, ap, ◌∙◌}
 use mathlib.Core.List.{List}
-use lib.ListN.{length, set, replicate, length-replicate, get_or-replicate}
+use lib.ListN.{set, replicate, length-replicate, get_or-replicate}
 use lib.IntN.{ℤ, pos}
-use lib.Seq.{paste, paste-zero, paste-suc, length-paste}
+use lib.Seq.{paste, paste-suc}
 use native.Mathlib.Numerals.{add-one}
 use Rattle.join.proofs.clear_lits.Goals as goal
 

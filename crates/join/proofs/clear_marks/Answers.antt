@@ -1,9 +1,9 @@
-use Prim.Native.Nat.{ℕ, ◌+◌, ◌-◌, ◌≤◌}
+use Prim.Native.Nat.{ℕ, ◌+◌}
 use native.Mathlib.Omega.{arith}
-use mathlib.Core.Path.{◌≡◌, sym, ap, ◌∙◌}
+use mathlib.Core.Path.{sym, ap, ◌∙◌}
 use mathlib.Core.List.{List}
-use lib.ListN.{length, set, replicate, length-replicate, get_or-replicate}
-use lib.Seq.{paste, paste-zero, paste-suc, length-paste}
+use lib.ListN.{set, replicate, length-replicate, get_or-replicate}
+use lib.Seq.{paste, paste-suc}
 use native.Mathlib.Numerals.{add-one}
 use Rattle.join.proofs.clear_marks.Goals as goal
 

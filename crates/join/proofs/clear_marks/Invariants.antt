@@ -1,10 +1,7 @@
-use Prim.Native.Nat.{ℕ, ◌+◌, ◌-◌, ◌≤◌}
-use native.Mathlib.Omega.{arith}
-use mathlib.Core.Path.{◌≡◌, sym, ap, ◌∙◌}
-use mathlib.Core.List.{List}
-use lib.ListN.{length, set, replicate, length-replicate, get_or-replicate}
-use lib.Seq.{paste, paste-zero, paste-suc, length-paste}
-use native.Mathlib.Numerals.{add-one}
+use Prim.Native.Nat.{◌-◌, ◌≤◌}
+use mathlib.Core.Path.{◌≡◌}
+use lib.ListN.{replicate}
+use lib.Seq.{paste}
 use Rattle.join.proofs.clear_marks.Given as goal
 
 abbrev pub invariant-loop-i : goal.invariant-loop-i

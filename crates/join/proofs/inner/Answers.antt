@@ -1,8 +1,5 @@
 use native.Mathlib.Omega.{arith}
-use mathlib.Core.Path.{sym, ap, ◌∙◌}
-use borrow.Author.Rules.{rules}
-use Rattle.paper.specs.declared.Planned.{Planned}
-use Rattle.paper.specs.Join.{inner_added, inner_nodes, inner_keys, inner_lits, inner_marks}
+use mathlib.Core.Path.{sym, ◌∙◌}
 use Rattle.join_plan.proofs.Plans.{MakeFacts, make_facts}
 use Rattle.join.proofs.inner.Goals as goal
 

@@ -1,7 +1,6 @@
 use Prim.Native.Nat.{ℕ, ◌+◌}
 use native.Mathlib.Omega.{arith}
 use mathlib.Core.Path.{sym, ap, ◌∙◌}
-use borrow.Author.Rules.{rules}
 use Rattle.paper.specs.declared.Planned.TheVariants.{Make}
 use Rattle.paper.specs.Join.{inner_node}
 use Rattle.join_plan.proofs.Plans.{fit_deep, fit_makes, fit_full}

@@ -1,8 +1,7 @@
 use mathlib.Core.Path.{subst, sym, ap₂, ◌∙◌, ◌≡◌}
 use lib.ListN.{length}
 use lib.Dec.{leb}
-use borrow.Author.Rules.{rules}
-use borrow.Author.Tests.{not-true, not-false, leb-false}
+use borrow.Author.Tests.{leb-false}
 use Rattle.paper.specs.declared.Node.{Node}
 use Rattle.paper.specs.Table.{table_ok}
 use Rattle.facts.specs.Facts.{Under, TableFacts}

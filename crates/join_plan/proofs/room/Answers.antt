@@ -1,6 +1,5 @@
 use mathlib.Core.Path.{ap₂}
 use mathlib.Core.Bool.{◌&&◌}
-use borrow.Author.Rules.{rules}
 use Rattle.paper.specs.Join.{room_for}
 use Rattle.join_plan.proofs.room.Goals as goal
 

@@ -1,13 +1,7 @@
 use Prim.Native.Nat.{ℕ, ◌-◌, ◌<◌, ◌≤◌}
-use native.Mathlib.Omega.{arith}
-use mathlib.Core.Path.{◌≡◌, subst}
+use mathlib.Core.Path.{◌≡◌}
 use mathlib.Core.Bool.{true}
-use lib.Dec.{leb}
-use mathlib.Core.Logic.{⊎_elim}
-use borrow.Author.Rules.{rules}
-use borrow.Author.Tests.{leb-true}
-use Rattle.paper.specs.Below.{side, and_left, and_right}
-use Rattle.paper.specs.Rows.{con_len, value_at}
+use Rattle.paper.specs.Rows.{value_at}
 use Rattle.keys.specs.Least.{Mono}
 use Rattle.keys.proofs.ascending.Given as goal
 

@@ -1,12 +1,6 @@
-use Prim.Native.Nat.{ℕ, ◌+◌, ◌-◌, ◌*◌}
-use mathlib.Core.Path.{◌≡◌, sym, ap, subst}
-use mathlib.Core.Bool.{Bool, cond}
-use native.Mathlib.Omega.{arith}
-use lib.Dec.{ltb}
-use borrow.Author.Rules.{rules}
-use Rattle.paper.specs.Rows.{con_len, con_val, value_at}
+use Prim.Native.Nat.{◌-◌}
+use Rattle.paper.specs.Rows.{con_val}
 use Rattle.keys.specs.Least.{Cut}
-use Rattle.keys.proofs.Laws.{prod_small, mono_times, cut_turn, cut_less}
 use Rattle.keys.proofs.back.Given as goal
 
 abbrev pub invariant-loop-lo : goal.invariant-loop-lo

@@ -1,12 +1,11 @@
-use Prim.Native.Nat.{ℕ, ◌+◌, ◌-◌, ◌<◌, ◌≤◌}
+use Prim.Native.Nat.{ℕ, ◌+◌, ◌<◌, ◌≤◌}
 use native.Mathlib.Omega.{arith}
-use mathlib.Core.Path.{◌≡◌, refl, sym, ap, ◌∙◌}
+use mathlib.Core.Path.{◌≡◌, sym, ap, ◌∙◌}
 use mathlib.Core.List.{List}
 use lib.ListN.{length, get_or}
 use Rattle.paper.specs.Keys.{node_keys}
-use Rattle.keys.specs.Least.{none, first_from, start_at}
+use Rattle.keys.specs.Least.{none, first_from}
 use Rattle.keys.proofs.Laws.{node_between, first_is_key, start_more, key_most, Between, none_ends, some_goes}
-use borrow.Author.Rules.{rules}
 use Rattle.keys.proofs.count_keys.Goals as goal
 
 pub returns-then-x-eq-NONE : goal.returns-then-x-eq-NONE

@@ -1,12 +1,8 @@
-use Prim.Native.Nat.{ℕ, ◌+◌, ◌-◌, ◌<◌, ◌≤◌}
-use native.Mathlib.Omega.{arith}
-use mathlib.Core.Path.{◌≡◌, refl, sym, ap, ◌∙◌}
-use mathlib.Core.List.{List}
-use lib.ListN.{length, get_or}
+use Prim.Native.Nat.{◌-◌, ◌≤◌}
+use mathlib.Core.Path.{◌≡◌}
+use lib.ListN.{length}
 use Rattle.paper.specs.Keys.{node_keys}
-use Rattle.keys.specs.Least.{none, first_from, start_at}
-use Rattle.keys.proofs.Laws.{node_between, first_is_key, start_more, key_most, Between, none_ends, some_goes}
-use borrow.Author.Rules.{rules}
+use Rattle.keys.specs.Least.{start_at}
 use Rattle.keys.proofs.count_keys.Given as goal
 
 abbrev pub invariant-loop-i : goal.invariant-loop-i

@@ -1,10 +1,9 @@
-use Prim.Native.Nat.{ℕ, ◌+◌, ◌-◌, ◌*◌, ◌≤◌}
+use Prim.Native.Nat.{ℕ, ◌+◌, ◌*◌}
 use native.Mathlib.Omega.{arith}
 use mathlib.Core.Path.{◌≡◌, ap, ap₂, ◌∙◌}
-use borrow.Author.Rules.{rules}
 use Rattle.paper.specs.Rows.{con_len, con_val}
 use Rattle.keys.specs.Least.{pick_of, least_all, least_sum}
-use Rattle.keys.proofs.Laws.{prod_small, sum_least_none, sum_least_more, node_least}
+use Rattle.keys.proofs.Laws.{sum_least_none, sum_least_more, node_least}
 use Rattle.keys.proofs.first_key_any.Goals as goal
 
 pub loop-i-init : goal.loop-i-init

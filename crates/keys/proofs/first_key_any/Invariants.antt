@@ -1,10 +1,7 @@
-use Prim.Native.Nat.{ℕ, ◌+◌, ◌-◌, ◌*◌, ◌≤◌}
-use native.Mathlib.Omega.{arith}
-use mathlib.Core.Path.{◌≡◌, ap, ap₂, ◌∙◌}
-use borrow.Author.Rules.{rules}
+use Prim.Native.Nat.{◌-◌, ◌≤◌}
+use mathlib.Core.Path.{◌≡◌}
 use Rattle.paper.specs.Rows.{con_len, con_val}
-use Rattle.keys.specs.Least.{pick_of, least_all, least_sum}
-use Rattle.keys.proofs.Laws.{prod_small, sum_least_none, sum_least_more, node_least}
+use Rattle.keys.specs.Least.{least_sum}
 use Rattle.keys.proofs.first_key_any.Given as goal
 
 abbrev pub invariant-loop-i : goal.invariant-loop-i

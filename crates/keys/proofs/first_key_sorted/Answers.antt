@@ -1,10 +1,9 @@
 use Prim.Native.Nat.{ℕ, ◌+◌, ◌-◌, ◌*◌, ◌<◌, ◌≤◌}
 use native.Mathlib.Omega.{arith}
 use mathlib.Core.Path.{sym, ◌≡◌, ap, ap₂, ◌∙◌}
-use borrow.Author.Rules.{rules}
 use Rattle.paper.specs.Rows.{con_len, con_val, value_at}
 use Rattle.keys.specs.Least.{none, pick_of, least_all, least_sum, Mono, picked_at}
-use Rattle.keys.proofs.Laws.{prod_small, sum_least_none, sum_least_more, node_least, mono_times, stair_high, stair_row, cut_below, skip_rows, sum_stays, last_most}
+use Rattle.keys.proofs.Laws.{sum_least_none, sum_least_more, node_least, mono_times, stair_high, stair_row, cut_below, skip_rows, sum_stays, last_most}
 use Rattle.keys.proofs.first_key_sorted.Goals as goal
 
 pub loop-i-init : goal.loop-i-init

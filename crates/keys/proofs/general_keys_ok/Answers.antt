@@ -1,16 +1,15 @@
-use Prim.Native.Nat.{ℕ, ◌+◌, ◌-◌, ◌≤◌}
+use Prim.Native.Nat.{ℕ, ◌+◌}
 use native.Mathlib.Omega.{arith}
 use mathlib.Core.Path.{◌≡◌, refl, sym, ap, ap₂, ◌∙◌}
 use mathlib.Core.Bool.{Bool, ◌&&◌}
 use mathlib.Core.List.{List}
 use lib.ListN.{get_or}
 use lib.Dec.{leb, eqb}
-use borrow.Author.Rules.{rules}
-use Rattle.paper.specs.Below.{all_below, all_none, all_step, all_end}
+use Rattle.paper.specs.Below.{all_none, all_step, all_end}
 use Rattle.paper.specs.Rows.{word_from}
 use Rattle.paper.specs.Limits.{key_limit}
 use Rattle.paper.specs.Keys.{node_keys}
-use Rattle.keys.specs.Least.{none, first_from, start_at}
+use Rattle.keys.specs.Least.{none, first_from}
 use Rattle.keys.proofs.Laws.{node_between, first_is_key, start_more, row_test, key_most, Between}
 use Rattle.keys.proofs.general_keys_ok.Goals as goal
 

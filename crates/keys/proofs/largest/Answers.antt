@@ -1,7 +1,6 @@
 use Prim.Native.Nat.{ℕ, ◌*◌, ◌-◌}
 use mathlib.Core.Path.{ap, sym, ◌∙◌}
 use native.Mathlib.Omega.{arith}
-use borrow.Author.Rules.{rules}
 use Rattle.paper.specs.Rows.{con_len, con_val}
 use Rattle.keys.proofs.Laws.{prod_small, last_none, last_some}
 use Rattle.keys.proofs.largest.Goals as goal

@@ -1,10 +1,9 @@
-use Prim.Native.Nat.{ℕ, ◌+◌, ◌-◌, ◌*◌, ◌≤◌}
+use Prim.Native.Nat.{ℕ, ◌+◌, ◌*◌}
 use native.Mathlib.Omega.{arith}
-use mathlib.Core.Path.{◌≡◌, ap, ap₂, ◌∙◌}
-use borrow.Author.Rules.{rules}
-use Rattle.paper.specs.Rows.{con_len, con_val}
-use Rattle.keys.specs.Least.{pick_of, least_all}
-use Rattle.keys.proofs.Laws.{prod_small, all_least_none, all_least_more}
+use mathlib.Core.Path.{ap₂, ◌∙◌}
+use Rattle.paper.specs.Rows.{con_val}
+use Rattle.keys.specs.Least.{pick_of}
+use Rattle.keys.proofs.Laws.{all_least_none, all_least_more}
 use Rattle.keys.proofs.least_row.Goals as goal
 
 pub loop-j-init : goal.loop-j-init

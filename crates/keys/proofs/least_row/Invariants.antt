@@ -1,10 +1,7 @@
-use Prim.Native.Nat.{ℕ, ◌+◌, ◌-◌, ◌*◌, ◌≤◌}
-use native.Mathlib.Omega.{arith}
-use mathlib.Core.Path.{◌≡◌, ap, ap₂, ◌∙◌}
-use borrow.Author.Rules.{rules}
-use Rattle.paper.specs.Rows.{con_len, con_val}
-use Rattle.keys.specs.Least.{pick_of, least_all}
-use Rattle.keys.proofs.Laws.{prod_small, all_least_none, all_least_more}
+use Prim.Native.Nat.{ℕ, ◌+◌, ◌-◌, ◌≤◌}
+use mathlib.Core.Path.{◌≡◌}
+use Rattle.paper.specs.Rows.{con_val}
+use Rattle.keys.specs.Least.{least_all}
 use Rattle.keys.proofs.least_row.Given as goal
 
 abbrev pub invariant-loop-j : goal.invariant-loop-j

@@ -1,15 +1,14 @@
-use Prim.Native.Nat.{ℕ, ◌+◌, ◌-◌, ◌<◌, ◌≤◌, ◌^◌}
+use Prim.Native.Nat.{ℕ, ◌+◌, ◌<◌, ◌^◌}
 use native.Mathlib.Omega.{arith}
-use mathlib.Core.Path.{◌≡◌, refl, sym, ap, ap₂, ◌∙◌}
+use mathlib.Core.Path.{◌≡◌, sym, ap, ap₂, ◌∙◌}
 use mathlib.Core.List.{List}
-use lib.ListN.{length, get_or, set}
-use lib.Seq.{paste, paste-zero, paste-suc, length-paste}
+use lib.ListN.{get_or, set}
+use lib.Seq.{paste, paste-suc}
 use native.Mathlib.Numerals.{add-one}
 use Rattle.paper.specs.Keys.{node_keys}
-use Rattle.keys.specs.Least.{none, first_from, start_at}
+use Rattle.keys.specs.Least.{none, first_from}
 use Rattle.keys.proofs.Laws.{node_between, first_is_key, start_more, key_most, within, Between, mono_same, paste_below}
 use Rattle.facts.proofs.Members.{node_same}
-use borrow.Author.Rules.{rules}
 use Rattle.keys.proofs.write_keys.Goals as goal
 
 pub next_key-x-requires-clause-mono : goal.next_key-x-requires-clause-mono

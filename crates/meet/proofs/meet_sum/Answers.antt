@@ -1,7 +1,7 @@
 use native.Mathlib.Omega.{arith}
 use mathlib.Core.Path.{refl, sym, ap, ◌∙◌}
 use mathlib.Core.List.{List}
-use Prim.Native.Nat.{◌+◌, ◌-◌, ◌/◌, ◌<◌, ◌≤◌, ◌^◌}
+use Prim.Native.Nat.{◌+◌, ◌<◌, ◌≤◌, ◌^◌}
 use lib.ListN.{length}
 use lib.IntN.{ℤ}
 use Rattle.paper.specs.Rows.{con_lits}
@@ -9,12 +9,10 @@ use Rattle.paper.specs.Plain.{lit_at}
 use Rattle.paper.specs.Weighted.{weigh_run}
 use Rattle.paper.specs.declared.Demanded.TheVariants.{Given}
 use Rattle.runs.proofs.Meets.{no_vars, no_room, all_given}
-use Rattle.runs.proofs.Dry.{fit_dry}
 use Rattle.runs.specs.Used.{run_of}
 use Rattle.sum.proofs.Laws.{outs_few}
 use Rattle.meet.proofs.Laws.{sum_dry_ends, sum_known, sum_real_ends, sum_real}
 use mir.Facts.{to_z-of_z}
-use borrow.Author.Rules.{rules}
 use Rattle.std.specs.Int.{w32}
 use Rattle.meet.proofs.meet_sum.Goals as goal
 

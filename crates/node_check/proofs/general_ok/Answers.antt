@@ -1,11 +1,7 @@
 use mathlib.Core.Path.{ap₂}
-use mathlib.Core.Bool.{not, ◌&&◌, ◌||◌}
-use lib.Dec.{leb, eqb}
-use borrow.Author.Rules.{rules}
-use borrow.Author.Tests.{leb-true}
-use Rattle.paper.specs.Below.{and_then, and_else, ands6}
+use mathlib.Core.Bool.{◌&&◌}
+use Rattle.paper.specs.Below.{and_then, and_else}
 use Rattle.paper.specs.Table.{general_ok}
-use Rattle.paper.specs.Limits.{mul_limit}
 use Rattle.node_check.proofs.general_ok.Goals as goal
 
 pub returns-then-n-l : goal.returns-then-n-l

@@ -1,7 +1,6 @@
 use mathlib.Core.Path.{ap₂}
 use mathlib.Core.Bool.{Bool, ◌&&◌}
 use lib.Dec.{ltb, eqb}
-use borrow.Author.Rules.{rules}
 use Rattle.paper.specs.Table.{inner_ok}
 use Rattle.node_check.proofs.inner_ok.Goals as goal
 

@@ -1,6 +1,5 @@
 use mathlib.Core.Path.{refl, sym, ◌∙◌}
-use borrow.Author.Rules.{rules}
-use borrow.Author.Tests.{eq-eqb, ne_eqb, not-true, not-false}
+use borrow.Author.Tests.{eq-eqb, ne_eqb}
 use Rattle.paper.specs.Below.{and_then, and_else}
 use Rattle.paper.specs.Table.{node_ok}
 use Rattle.node_check.proofs.node_ok.Goals as goal

@@ -2,7 +2,6 @@ use mathlib.Core.Path.{ap, ap₂}
 use mathlib.Core.Bool.{Bool, ◌&&◌}
 use Rattle.records.specs.declared.Seen.{Seen}
 use Rattle.records.specs.Table.{begin_of}
-use borrow.Author.Rules.{rules}
 use Rattle.records.proofs.begin.Goals as goal
 
 pub returns : goal.returns

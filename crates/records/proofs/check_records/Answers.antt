@@ -21,7 +21,7 @@ pub loop-i-preserved : goal.loop-i-preserved
 loop-i-preserved c = (
   omega arith,
   c.step-s.ensures
-  ∙ seen_more (record_in c.args.nodes.now) c.args.inputs.now c.args.keys.now c.args.lits.now c.args.marks.now c.args.clauses.now c.args.c c.loop-i.i c.earlier.result
+      ∙ seen_more (record_in c.args.nodes.now) c.args.inputs.now c.args.keys.now c.args.lits.now c.args.marks.now c.args.clauses.now c.args.c c.loop-i.i c.earlier.result
       c.earlier-in-loop-i.result c.loop-i.s c.loop-i.invariant.1 c.earlier.ensures c.earlier-in-loop-i.ensures,
 )
 

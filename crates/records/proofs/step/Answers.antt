@@ -1,11 +1,8 @@
-use lib.Dec.{ltb}
-use native.Mathlib.Omega.{arith}
-use mathlib.Core.Path.{refl, sym, ap, ◌∙◌}
+use mathlib.Core.Path.{sym, ap, ◌∙◌}
 use borrow.Author.Tests.{not-true, not-false}
 use Rattle.paper.specs.declared.Node.{Node}
 use Rattle.records.specs.Table.{passed_of}
-use Rattle.records.proofs.Laws.{takes_made, passed_needs, step_failed, step_past, step_not, step_passed}
-use borrow.Author.Rules.{rules}
+use Rattle.records.proofs.Laws.{takes_made, step_failed, step_past, step_not, step_passed}
 use Rattle.records.proofs.step.Goals as goal
 
 pub returns-then-not-s : goal.returns-then-not-s

@@ -1,10 +1,7 @@
 use Prim.Native.Nat.{ℕ, ◌-◌, ◌<◌, ◌≤◌}
-use native.Mathlib.Omega.{arith}
-use mathlib.Core.Path.{◌≡◌, refl, ◌∙◌}
-use lib.ListN.{length, get_or, length-set}
+use mathlib.Core.Path.{◌≡◌}
+use lib.ListN.{length, get_or}
 use lib.IntN.{pos}
-use mir.Facts.{to_z-of_z}
-use Rattle.reserve.proofs.Give.{copy_more}
 use Rattle.reserve.proofs.copy_lits.Given as goal
 
 abbrev pub invariant-loop-i : goal.invariant-loop-i

@@ -1,8 +1,6 @@
 use Prim.Native.Nat.{◌+◌}
 use native.Mathlib.Omega.{arith}
-use Rattle.reserve.proofs.Give.{closed_none}
-use Rattle.reserve.proofs.Dry.{shape_more, room_dry, dry_count}
-use borrow.Author.Rules.{rules}
+use Rattle.reserve.proofs.Dry.{room_dry, dry_count}
 use Rattle.reserve.proofs.dry_run.Goals as goal
 
 pub reserve_node-requires-clause-room : goal.reserve_node-requires-clause-room

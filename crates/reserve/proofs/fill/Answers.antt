@@ -1,9 +1,6 @@
-use Prim.Native.Nat.{◌+◌, ◌-◌, ◌≤◌}
 use native.Mathlib.Omega.{arith}
-use mathlib.Core.Path.{◌≡◌, refl, ◌∙◌}
-use lib.ListN.{length}
-use Rattle.paper.specs.Upkeep.{stock, give_all, cells_from}
-use Rattle.reserve.proofs.Give.{fill_start, fill_room, fill_turn, fill_end}
+use mathlib.Core.Path.{◌∙◌}
+use Rattle.reserve.proofs.Give.{fill_room, fill_turn, fill_end}
 use Rattle.reserve.proofs.fill.Goals as goal
 
 pub give_cell-n-requires : goal.give_cell-n-requires

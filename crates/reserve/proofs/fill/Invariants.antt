@@ -1,9 +1,7 @@
 use Prim.Native.Nat.{◌+◌, ◌-◌, ◌≤◌}
-use native.Mathlib.Omega.{arith}
-use mathlib.Core.Path.{◌≡◌, refl, ◌∙◌}
+use mathlib.Core.Path.{◌≡◌}
 use lib.ListN.{length}
 use Rattle.paper.specs.Upkeep.{stock, give_all, cells_from}
-use Rattle.reserve.proofs.Give.{fill_start, fill_room, fill_turn, fill_end}
 use Rattle.reserve.proofs.fill.Given as goal
 
 abbrev pub invariant-loop-i : goal.invariant-loop-i

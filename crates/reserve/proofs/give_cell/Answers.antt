@@ -10,7 +10,6 @@ use Rattle.paper.specs.Limits.{var_limit}
 use Rattle.paper.specs.Upkeep.{Stock, stock}
 use Rattle.reserve.specs.Reserve.{is_none}
 use Rattle.reserve.proofs.Give.{give_none, give_some, none_is, bits_zero, bits_nonzero}
-use borrow.Author.Rules.{rules}
 use Rattle.reserve.proofs.give_cell.Goals as goal
 
 pub overflow_cast-lits : goal.overflow_cast-lits

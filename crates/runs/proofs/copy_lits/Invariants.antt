@@ -1,10 +1,6 @@
-use mathlib.Core.Path.{◌≡◌, refl, ◌∙◌}
+use mathlib.Core.Path.{◌≡◌}
 use Prim.Native.Nat.{◌-◌, ◌≤◌}
-use native.Mathlib.Omega.{arith}
-use lib.ListN.{length, take, length-set}
-use lib.IntN.{pos}
-use mir.Facts.{to_z-of_z}
-use Rattle.runs.proofs.Copy.{copy_turn, copy_end}
+use lib.ListN.{length, take}
 use Rattle.runs.proofs.copy_lits.Given as goal
 
 abbrev pub invariant-loop-k : goal.invariant-loop-k

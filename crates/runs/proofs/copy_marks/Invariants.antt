@@ -1,8 +1,6 @@
-use mathlib.Core.Path.{◌≡◌, refl, ◌∙◌}
+use mathlib.Core.Path.{◌≡◌}
 use Prim.Native.Nat.{◌-◌, ◌≤◌}
-use native.Mathlib.Omega.{arith}
-use lib.ListN.{length, take, length-set}
-use Rattle.runs.proofs.Copy.{copy_turn, copy_end}
+use lib.ListN.{length, take}
 use Rattle.runs.proofs.copy_marks.Given as goal
 
 abbrev pub invariant-loop-k : goal.invariant-loop-k

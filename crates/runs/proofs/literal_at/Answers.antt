@@ -1,12 +1,7 @@
-use mathlib.Core.Path.{ap, ◌∙◌}
-use mathlib.Core.List.{List}
+use mathlib.Core.Path.{ap}
 use native.Mathlib.Omega.{arith}
 use lib.ListN.{length}
-use lib.IntN.{ℤ}
-use mir.Facts.{to_z-of_z}
-use Rattle.paper.specs.Plain.{lit_at}
 use Rattle.runs.proofs.Long.{lits_long}
-use borrow.Author.Rules.{rules}
 use Rattle.runs.proofs.literal_at.Goals as goal
 
 pub offset_bounds-l-i : goal.offset_bounds-l-i

@@ -1,20 +1,18 @@
 use native.Mathlib.Omega.{arith}
 use mathlib.Core.Path.{◌≡◌, refl, sym, ap, ◌∙◌}
 use mathlib.Core.List.{List}
-use Prim.Native.Nat.{ℕ, ◌+◌, ◌-◌, ◌*◌, ◌/◌, ◌<◌, ◌≤◌}
+use Prim.Native.Nat.{ℕ, ◌-◌, ◌<◌}
 use lib.ListN.{length, set, length-set}
 use lib.IntN.{ℤ}
 use Rattle.paper.specs.Plain.{St}
 use Rattle.paper.specs.declared.Node.{Node}
 use Rattle.paper.specs.declared.Way.{Way}
 use Rattle.clause.specs.Row.{Row, lay}
-use borrow.Author.Rules.{rules}
-use Rattle.paper.specs.Span.{span, span_turn, span_end}
+use Rattle.paper.specs.Span.{span_turn, span_end}
 use Rattle.paper.specs.Weighted.{weigh, way_of, link_of, links_of, mark_at}
-use Rattle.count.specs.Run.{Fit, state}
+use Rattle.count.specs.Run.{state}
 use Rattle.count.proofs.Laws.{next_by}
 use Rattle.find.proofs.Laws.{count_ok, sum_ok}
-use Rattle.sum.specs.Ways.{pairs_of}
 use Rattle.sum.proofs.Laws.{place_at, link_ends_1, link_ends_2, turn_ends, pairs_start, pairs_ends, left_ends, right_ends, alone_is, link_is, take_is, mark_is, nothing_is, count_is, sum_is, take_asks, links_asks, mono_weigh, way_ok, fit_words, fit_marks}
 use Prim.Native.Nat.{ℕ, ◌<◌}
 use Rattle.sum.proofs.+link_links_pairs_weigh.Goals as goal

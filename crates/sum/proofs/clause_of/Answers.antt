@@ -1,14 +1,12 @@
 use Rattle.std.specs.Int.{w32}
 use native.Mathlib.Omega.{arith}
 use mathlib.Core.Path.{sym, ap, ◌∙◌}
-use Prim.Native.Nat.{◌-◌, ◌/◌}
 use Rattle.paper.specs.Plain.{lit_at, if_clause}
 use Rattle.clause.specs.Row.{lay, at_row}
 use mir.Facts.{to_z-of_z}
 use Rattle.clause.proofs.Laws.{if_len, counted_after}
 use Rattle.count.proofs.Laws.{neg_lits_of}
 use Rattle.sum.proofs.Laws.{outs_few, length_con_lits, way_none, way_some}
-use borrow.Author.Rules.{rules}
 use Rattle.sum.proofs.clause_of.Goals as goal
 
 pub overflow_add-p : goal.overflow_add-p

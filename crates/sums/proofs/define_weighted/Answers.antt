@@ -1,16 +1,13 @@
 use native.Mathlib.Omega.{arith}
-use mathlib.Core.Path.{◌≡◌, refl, sym, ap, ◌∙◌}
-use Prim.Native.Nat.{◌-◌, ◌/◌}
+use mathlib.Core.Path.{◌≡◌, sym, ap, ◌∙◌}
 use lib.ListN.{length}
-use borrow.Author.Tests.{not-true, not-false}
 use Rattle.paper.specs.Weighted.{output_of}
 use Rattle.paper.specs.Demand.{cells_used, sum_place}
 use Rattle.paper.specs.declared.Node.{Node}
 use Rattle.paper.specs.declared.Found.TheVariants.{At}
 use Rattle.facts.proofs.Facts.{table_facts, words_fit, used_length}
 use Rattle.find.proofs.Laws.{sorted_by}
-use Rattle.sums.proofs.Laws.{sorted_of, ready_of, here_at, work_cells, fails_table, fails_work, fails_node, fails_output, met_answer, met_lits, met_marks, met_clauses}
-use borrow.Author.Rules.{rules}
+use Rattle.sums.proofs.Laws.{sorted_of, ready_of, here_at, work_cells, fails_table, fails_work, fails_node, fails_output, met_answer}
 use Rattle.sums.proofs.define_weighted.Goals as goal
 
 pub returns-then-not-table_ok-clause-value : goal.returns-then-not-table_ok-clause-value
@@ -132,7 +129,7 @@ copy_and_meet-requires-clause-ints_len c = let s = c in
     let w = sym c.work_ok.ensures ∙ c.if-not-work_ok.false in
     let f = table_facts _ _ _ _ _ _ _ _ t in
     let e : sum_place s.args.nodes.now s.args.keys.now s.args.c s.args.id s.args.v ≡ At c.in-At.j = sym (c.output_of.ensures ∙ ap (λ (n : Node). output_of (cells_used s.args.keys.now s.args.c) n s.args.v) c.node_at-n.ensures) ∙ c.in-At.is in
-    let a = work_cells _ _ _ w in ( used_length _ _ a.0 ∙ sym (used_length _ _ f.lit_row), used_length _ _ a.1 ∙ sym (used_length _ _ f.mark_row), )
+    let a = work_cells _ _ _ w in (used_length _ _ a.0 ∙ sym (used_length _ _ f.lit_row), used_length _ _ a.1 ∙ sym (used_length _ _ f.mark_row))
 
 pub returns-clause-value : goal.returns-clause-value
 returns-clause-value c = let s = c in

@@ -1,7 +1,6 @@
 use mathlib.Core.Path.{ap}
 use mathlib.Core.Bool.{Bool, ◌&&◌}
 use lib.Dec.{leb}
-use borrow.Author.Rules.{rules}
 use Rattle.paper.specs.Table.{counters_ok}
 use Rattle.paper.specs.Limits.{node_limit, cell_limit}
 use Rattle.table.proofs.counters_ok.Goals as goal

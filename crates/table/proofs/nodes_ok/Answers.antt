@@ -1,10 +1,8 @@
-use Prim.Native.Nat.{ℕ, ◌+◌, ◌-◌, ◌*◌, ◌<◌, ◌≤◌}
+use Prim.Native.Nat.{ℕ, ◌+◌, ◌*◌, ◌<◌}
 use native.Mathlib.Omega.{arith}
 use mathlib.Core.Path.{◌≡◌, sym, ap, ap₂, ◌∙◌}
-use mathlib.Core.Bool.{true, ◌&&◌}
+use mathlib.Core.Bool.{◌&&◌}
 use lib.Dec.{eqb}
-use borrow.Author.Rules.{rules}
-use borrow.Author.Tests.{not-true, not-false}
 use Rattle.paper.specs.Below.{all_below, all_none, all_more, all_fails, sum_none, sum_more, and_then, and_else, and_both}
 use Rattle.paper.specs.Rows.{node_at}
 use Rattle.paper.specs.Table.{node_ok_at, nodes_ok, leaf_step, leaves_before, cells_before}

@@ -1,6 +1,4 @@
 use mathlib.Core.Path.{sym, ◌∙◌}
-use borrow.Author.Rules.{rules}
-use borrow.Author.Tests.{not-true, not-false}
 use Rattle.paper.specs.Below.{and_then, and_else}
 use Rattle.paper.specs.Table.{table_ok_at}
 use Rattle.table.proofs.Words.{nodes_few}

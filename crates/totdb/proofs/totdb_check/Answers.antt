@@ -1,7 +1,6 @@
 use mathlib.Core.Bool.{true, false}
 use mathlib.Core.Path.{sym, ◌∙◌}
 use Rattle.totdb.proofs.Telling.{check_told}
-use borrow.Author.Rules.{rules}
 use Rattle.totdb.proofs.totdb_check.Goals as goal
 
 pub returns-then-check : goal.returns-then-check

@@ -1,5 +1,4 @@
 use Rattle.totdb.proofs.Telling.{unweighted_told}
-use borrow.Author.Rules.{rules}
 use Rattle.totdb.proofs.totdb_define_unweighted.Goals as goal
 
 pub returns : goal.returns

@@ -1,5 +1,4 @@
 use Rattle.totdb.proofs.Telling.{weighted_told}
-use borrow.Author.Rules.{rules}
 use Rattle.totdb.proofs.totdb_define_weighted.Goals as goal
 
 pub returns : goal.returns

@@ -1,5 +1,4 @@
 use Rattle.totdb.proofs.Telling.{dummy_told}
-use borrow.Author.Rules.{rules}
 use Rattle.totdb.proofs.totdb_dummy.Goals as goal
 
 pub returns : goal.returns

@@ -1,5 +1,4 @@
 use Rattle.totdb.proofs.Telling.{empty_told}
-use borrow.Author.Rules.{rules}
 use Rattle.totdb.proofs.totdb_empty_clauses.Goals as goal
 
 pub returns : goal.returns

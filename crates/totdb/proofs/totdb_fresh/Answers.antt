@@ -1,5 +1,4 @@
 use Rattle.totdb.proofs.Telling.{fresh_told}
-use borrow.Author.Rules.{rules}
 use Rattle.totdb.proofs.totdb_fresh.Goals as goal
 
 pub returns : goal.returns

@@ -1,5 +1,4 @@
 use Rattle.totdb.proofs.Telling.{inner_told}
-use borrow.Author.Rules.{rules}
 use Rattle.totdb.proofs.totdb_inner.Goals as goal
 
 pub returns : goal.returns

@@ -1,7 +1,6 @@
 use mir.Syntax.{w32}
 use mir.ValLaws.{to_z-of_z}
 use Rattle.totdb.proofs.Telling.{leaf_told}
-use borrow.Author.Rules.{rules}
 use Rattle.totdb.proofs.totdb_leaf.Goals as goal
 
 pub returns : goal.returns

@@ -1,5 +1,4 @@
 use Rattle.totdb.proofs.Telling.{reserve_told}
-use borrow.Author.Rules.{rules}
 use Rattle.totdb.proofs.totdb_reserve_vars.Goals as goal
 
 pub returns : goal.returns

@@ -1,5 +1,4 @@
 use Rattle.totdb.proofs.Telling.{reset_told}
-use borrow.Author.Rules.{rules}
 use Rattle.totdb.proofs.totdb_reset.Goals as goal
 
 pub returns : goal.returns

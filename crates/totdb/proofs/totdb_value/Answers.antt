@@ -1,5 +1,4 @@
 use Rattle.totdb.proofs.Telling.{value_told}
-use borrow.Author.Rules.{rules}
 use Rattle.totdb.proofs.totdb_value.Goals as goal
 
 pub returns : goal.returns

@@ -1,7 +1,5 @@
 use mathlib.Core.Path.{sym, ◌∙◌}
-use borrow.Author.Tests.{not-true, not-false}
 use Rattle.upkeep.proofs.Answers.{no_empty, did_empty}
-use borrow.Author.Rules.{rules}
 use Rattle.upkeep.proofs.empty_clauses.Goals as goal
 
 pub returns-then-not-table_ok : goal.returns-then-not-table_ok

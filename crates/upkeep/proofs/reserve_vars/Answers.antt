@@ -1,15 +1,13 @@
 use mathlib.Core.Bool.{true}
 use mathlib.Core.Path.{◌≡◌, refl, sym, ap, ◌∙◌}
-use borrow.Author.Tests.{not-true, not-false, le-ltb, lt-ltb}
+use borrow.Author.Tests.{le-ltb, lt-ltb}
 use native.Mathlib.Omega.{arith}
 use Prim.Native.Nat.{◌+◌, ◌-◌, ◌≤◌}
 use lib.ListN.{length}
 use Rattle.paper.specs.Table.{table_ok, work_ok}
 use Rattle.paper.specs.Upkeep.{Stock, reserved_by, reserve_of}
-use Rattle.reserve.proofs.Give.{closed_none}
 use Rattle.reserve.proofs.Dry.{shape_more, dry_some, room_real, no_room}
 use Rattle.upkeep.proofs.Answers.{Table, table_gives, Work, work_gives, reserve_no_table, reserve_no_work, reserve_no_node, reserve_no_vars, reserved}
-use borrow.Author.Rules.{rules}
 use Rattle.upkeep.proofs.reserve_vars.Goals as goal
 
 pub returns-then-not-table_ok : goal.returns-then-not-table_ok

@@ -1,8 +1,6 @@
 use mathlib.Core.Path.{refl, sym, ◌∙◌}
-use borrow.Author.Tests.{not-true, not-false}
 use Rattle.facts.proofs.Facts.{table_facts}
 use Rattle.upkeep.proofs.Answers.{no_reset, did_reset}
-use borrow.Author.Rules.{rules}
 use Rattle.upkeep.proofs.reset.Goals as goal
 
 pub returns-then-not-table_ok : goal.returns-then-not-table_ok

@@ -1,11 +1,10 @@
 use mathlib.Core.Path.{sym, ◌∙◌}
-use borrow.Author.Tests.{not-true, not-false, le-ltb, lt-ltb}
+use borrow.Author.Tests.{le-ltb, lt-ltb}
 use native.Mathlib.Omega.{arith}
 use Rattle.paper.specs.Upkeep.{valued_of}
 use Rattle.facts.proofs.Facts.{table_facts}
 use Rattle.upkeep.proofs.Answers.{work_gives, value_no_table, value_no_work, value_no_node, value_no_assignment, valued}
 use Rattle.upkeep.proofs.Sound.{sound}
-use borrow.Author.Rules.{rules}
 use Rattle.upkeep.proofs.value.Goals as goal
 
 pub returns-then-not-table_ok : goal.returns-then-not-table_ok

@@ -1,10 +1,7 @@
-use Prim.Native.Nat.{ℕ, ◌-◌, ◌≤◌}
 use native.Mathlib.Omega.{arith}
-use mathlib.Core.Path.{◌≡◌, refl, sym}
-use lib.ListN.{get_or}
-use lib.Dec.{leb}
+use mathlib.Core.Path.{refl, sym}
 use borrow.Author.Tests.{le-leb, lt-leb}
-use Rattle.paper.specs.Below.{all_below, all_none, all_step, all_end, and_then, and_else}
+use Rattle.paper.specs.Below.{all_none, all_step, all_end, and_then, and_else}
 use Rattle.paper.specs.Upkeep.{assigned_ok}
 use Rattle.worth.proofs.assigned.Goals as goal
 

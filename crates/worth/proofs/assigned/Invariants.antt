@@ -1,11 +1,8 @@
 use Prim.Native.Nat.{ℕ, ◌-◌, ◌≤◌}
-use native.Mathlib.Omega.{arith}
-use mathlib.Core.Path.{◌≡◌, refl, sym}
+use mathlib.Core.Path.{◌≡◌}
 use lib.ListN.{get_or}
 use lib.Dec.{leb}
-use borrow.Author.Tests.{le-leb, lt-leb}
-use Rattle.paper.specs.Below.{all_below, all_none, all_step, all_end, and_then, and_else}
-use Rattle.paper.specs.Upkeep.{assigned_ok}
+use Rattle.paper.specs.Below.{all_below}
 use Rattle.worth.proofs.assigned.Given as goal
 
 abbrev pub invariant-loop-i : goal.invariant-loop-i

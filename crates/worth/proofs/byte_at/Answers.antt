@@ -4,7 +4,6 @@ use mathlib.Core.Path.{sym}
 use borrow.Author.Tests.{eq-eqb, ne_eqb}
 use lib.ListN.{get_or-eq_default}
 use Rattle.paper.specs.Upkeep.{byte_at}
-use borrow.Author.Rules.{rules}
 use Rattle.worth.proofs.byte_at.Goals as goal
 
 pub returns-then-v-eq0 : goal.returns-then-v-eq0

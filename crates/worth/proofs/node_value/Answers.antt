@@ -1,17 +1,13 @@
-use Prim.Native.Nat.{◌+◌, ◌*◌, ◌<◌}
-use native.Mathlib.Omega.{arith}
+use Prim.Native.Nat.{◌+◌, ◌*◌}
 use mathlib.Core.Path.{sym, ap, ◌∙◌}
-use lib.ListN.{length, get_or}
+use lib.ListN.{get_or}
 use lib.IntN.{ℤ, pos, nat_abs}
-use lib.Dec.{eqb}
-use borrow.Author.Tests.{eq-eqb, ne_eqb}
 use Rattle.paper.specs.Rows.{node_at}
 use Rattle.paper.specs.declared.Node.{Node}
 use mir.Syntax.{w32}
 use mir.Facts.{to_z-of_z}
 use Rattle.paper.specs.Upkeep.{truth_of}
 use Rattle.worth.proofs.Worth.{worth_leaf, worth_dummy, worth_inner}
-use borrow.Author.Rules.{rules}
 use Rattle.worth.proofs.node_value.Goals as goal
 
 pub returns-then-k-eq0 : goal.returns-then-k-eq0

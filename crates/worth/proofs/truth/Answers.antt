@@ -1,6 +1,5 @@
 use borrow.Author.Tests.{eq-eqb, ne_eqb}
 use Rattle.worth.proofs.Worth.{var_is, neg_is, truth_at}
-use borrow.Author.Rules.{rules}
 use Rattle.worth.proofs.truth.Goals as goal
 
 pub returns-then-neg : goal.returns-then-neg

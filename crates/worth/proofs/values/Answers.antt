@@ -1,13 +1,13 @@
-use Prim.Native.Nat.{ℕ, ◌+◌, ◌-◌, ◌<◌, ◌≤◌}
+use Prim.Native.Nat.{ℕ, ◌+◌, ◌<◌}
 use native.Mathlib.Omega.{arith}
-use mathlib.Core.Path.{◌≡◌, refl, ap, ◌∙◌}
-use lib.ListN.{length, get_or, length-set}
-use lib.IntN.{pos, nat_abs}
+use mathlib.Core.Path.{◌≡◌, ◌∙◌}
+use lib.ListN.{length-set}
+use lib.IntN.{pos}
 use mir.Syntax.{w32}
 use mir.Val.{SFits}
 use mir.Facts.{to_z-of_z}
 use Rattle.paper.specs.Upkeep.{value_of}
-use Rattle.worth.proofs.Worth.{var_is, ready_more, Held, reach, held_more}
+use Rattle.worth.proofs.Worth.{reach, held_more}
 use Rattle.worth.proofs.values.Goals as goal
 
 pub overflow_cast-work : goal.overflow_cast-work

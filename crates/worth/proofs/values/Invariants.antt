@@ -1,13 +1,7 @@
-use Prim.Native.Nat.{ℕ, ◌+◌, ◌-◌, ◌<◌, ◌≤◌}
-use native.Mathlib.Omega.{arith}
-use mathlib.Core.Path.{◌≡◌, refl, ap, ◌∙◌}
-use lib.ListN.{length, get_or, length-set}
-use lib.IntN.{pos, nat_abs}
-use mir.Syntax.{w32}
-use mir.Val.{SFits}
-use mir.Facts.{to_z-of_z}
-use Rattle.paper.specs.Upkeep.{value_of}
-use Rattle.worth.proofs.Worth.{var_is, ready_more, Held, reach, held_more}
+use Prim.Native.Nat.{◌+◌, ◌-◌, ◌≤◌}
+use mathlib.Core.Path.{◌≡◌}
+use lib.ListN.{length}
+use Rattle.worth.proofs.Worth.{Held}
 use Rattle.worth.proofs.values.Given as goal
 
 abbrev pub invariant-loop-i : goal.invariant-loop-i

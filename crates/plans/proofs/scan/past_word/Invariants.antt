@@ -1,5 +1,4 @@
 use Prim.Native.Nat.{◌≤◌, ◌-◌}
-use native.Mathlib.Omega.{arith}
 use lib.ListN.{length}
 use mathlib.Core.Path.{◌≡◌}
 use Rattle.plans.proofs.scan.past_word.Given as goal

@@ -1,7 +1,5 @@
-use Prim.Native.Nat.{◌-◌}
 use mathlib.Core.Path.{◌≡◌}
 use lib.ListN.{length}
-use borrow.Author.Rules.{rules}
 use Rattle.plans_text.proofs.bytes_in.next_line.Given as goal
 
 abbrev pub invariant-loop-turns : goal.invariant-loop-turns

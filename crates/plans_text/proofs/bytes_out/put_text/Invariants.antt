@@ -1,8 +1,6 @@
 use Prim.Native.Nat.{◌≤◌, ◌-◌}
-use native.Mathlib.Omega.{arith}
 use mathlib.Core.Path.{◌≡◌}
 use lib.ListN.{length}
-use borrow.Author.Rules.{rules}
 use Rattle.plans_text.proofs.bytes_out.put_text.Given as goal
 
 abbrev pub invariant-loop-i : goal.invariant-loop-i

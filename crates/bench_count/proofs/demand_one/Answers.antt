@@ -1,0 +1,13 @@
+use mathlib.Core.Path.{ap}
+use Prim.Native.Nat.{◌<◌}
+use native.Mathlib.Omega.{arith}
+use Rattle.runs.specs.Counts.{counting}
+use Rattle.runs.proofs.Counts.{counting_runs}
+use Rattle.runs.proofs.Dry.{few_ends}
+use Rattle.paper.specs.Rows.{value_count}
+use Rattle.count.specs.Run.{outs}
+use Rattle.bench_count.proofs.demand_one.Goals as goal
+
+pub define_unweighted_rec-requires-clause-ends : goal.define_unweighted_rec-requires-clause-ends
+define_unweighted_rec-requires-clause-ends c = let s = c in
+    let o : s.args.i < outs s.args.nodes.now 8190 = omega (arith, c.if-con_len-i.false, c.con_len.ensures, ap value_count c.node_at.ensures) in few_ends (counting s.args.nodes.now s.args.inputs.now 8190 s.args.i s.args.want) (counting_runs s.args.nodes.now s.args.inputs.now 8190 s.args.i s.args.want) 8191 s.args.lits.now s.args.marks.now s.args.row.now (omega (arith, s.well_formed.1.1.1.1.0)) _ s.requires.counted s.requires.some (omega (arith, c.if-run-gt1000000.false, c.if-lits-gt1000000.false))
