@@ -1,7 +1,7 @@
 /*
  * totdb: a database of totalizers. It makes the CNF clauses that count true literals, or add up their weights.
  *
- * Link with target/staticlib/libtotdb.a, which `rt staticlib totdb` makes (x86-64 Linux). The library keeps nothing of its
+ * Link with target/staticlib/libtotdb.a, which `tools/staticlib.sh` makes (x86-64 Linux). The library keeps nothing of its
  * own: no heap, no globals, no threads. Every call works on rows that the caller lends, and is proved to do what the rules
  * say for any content of these rows: docs/RULES.md, which is the customer's document 01 in our words. The contracts are in
  * crates/totdb/src/lib.rt.

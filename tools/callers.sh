@@ -1,6 +1,6 @@
 #!/usr/bin/env bash
-# The callers in other languages, tried on the static library: the Rust binding's tests, the C example, the worked site. It
-# wants cargo and gcc, and uses what target/ holds already. The site wants the solver cadical too (or the one that SOLVER
+# The callers in other languages, tried on the static library, which tools/staticlib.sh makes: the Rust binding's tests, the C
+# example, the worked site. It wants cargo and gcc, and uses what target/ holds already. The site wants the solver cadical too (or the one that SOLVER
 # names); where it is not installed the site is built and not run, and a line says so. What a step prints is shown where it
 # fails, and what it skipped in any case.
 set -euo pipefail
@@ -24,7 +24,7 @@ c_example() {
         target/count | cmp - examples/c/count.out
 }
 
-quietly "the static library" rt staticlib totdb
+quietly "the static library" tools/staticlib.sh
 quietly "the Rust binding's tests" cargo test --offline --manifest-path bindings/rust/Cargo.toml --target-dir target/cargo
 quietly "the C example" c_example
 if command -v "${SOLVER:-cadical}" >/dev/null; then

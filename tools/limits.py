@@ -76,11 +76,11 @@ def main():
 
     source = "crates/paper/specs/Limits.antt"
     found = dict(re.findall(r"^(\w+) = ([0-9]+)$", read(source) or "", re.M))
-    missing = [name for name in [f"{n}Limit" for n in NAMES] + ["nodeWords"] if name not in found]
+    missing = [name for name in [f"{n}_limit" for n in NAMES] + ["node_words"] if name not in found]
     if missing:
         sys.exit(f"{source}: {', '.join(missing)} not found")
-    limit = {name: int(found[f"{name}Limit"]) for name in NAMES}
-    limit["words"] = int(found["nodeWords"])
+    limit = {name: int(found[f"{name}_limit"]) for name in NAMES}
+    limit["words"] = int(found["node_words"])
     for file, pattern, want in places(limit):
         check(file, pattern, want)
     for file, pattern, want in powers(limit):

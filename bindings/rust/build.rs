@@ -11,7 +11,7 @@ fn main() {
         None => in_repository(),
     };
     let archive = dir.join("libtotdb.a");
-    assert!(archive.is_file(), "{} is not there: run `rt staticlib totdb` in the repository's folder, or set TOTDB_LIB_DIR", archive.display());
+    assert!(archive.is_file(), "{} is not there: run `tools/staticlib.sh` in the repository's folder, or set TOTDB_LIB_DIR", archive.display());
     println!("cargo:rerun-if-changed={}", archive.display());
     println!("cargo:rustc-link-search=native={}", dir.display());
     println!("cargo:rustc-link-lib=static=totdb");
@@ -31,17 +31,16 @@ fn in_repository() -> PathBuf {
 /// Only a proved library is written, so this takes as long as its proof.
 fn prove_and_build(root: &Path) {
     println!(
-        "cargo:warning=target/staticlib/libtotdb.a is not there yet: running `rt staticlib totdb`"
+        "cargo:warning=target/staticlib/libtotdb.a is not there yet: running `tools/staticlib.sh`"
     );
-    match Command::new("rt")
-        .args(["staticlib", "totdb"])
+    match Command::new(root.join("tools/staticlib.sh"))
         .current_dir(root)
         .status()
     {
         Ok(status) if status.success() => {}
-        Ok(status) => panic!("`rt staticlib totdb` ended with {status}"),
+        Ok(status) => panic!("`tools/staticlib.sh` ended with {status}"),
         Err(why) => panic!(
-            "`rt staticlib totdb` did not start ({why}): put rt on the PATH, or set TOTDB_LIB_DIR"
+            "`tools/staticlib.sh` did not start ({why}): put rt on the PATH, or set TOTDB_LIB_DIR"
         ),
     }
 }

@@ -1,7 +1,7 @@
 /*
  * Three inputs, counted: "at least two of them" (P3 of docs/RULES.md), then a refusal. From the repository's folder:
  *
- *     rt staticlib totdb
+ *     tools/staticlib.sh
  *     gcc -Wall -Wextra -I include examples/c/count.c target/staticlib/libtotdb.a -o target/count && target/count
  *
  * It writes what examples/c/count.out has.
