@@ -3,7 +3,7 @@
 
     speed.py [PROGRAM ..] [BENCH]
 
-Times the programs in target/bin (`rt check bench_table bench_count bench_sum` makes them), all or those named, and BENCH, a
+Times the programs crates/NAME/out/NAME (`rt run` in each one's folder makes them), all or those named, and BENCH, a
 program that prints the Rust's own times for the demands of bench_count. A time is CPU time of the whole program for many
 turns, less that for one turn, by the turn: starting up and making the table drop out. BENCH's own are wall time. All are run
 in turn, ROUNDS times, and the least is taken. Compared, not timed: what bench_sum writes for each value, with the words and
@@ -66,7 +66,7 @@ for letter, what in zip("abcdef", VALUES):
 def run(program, text):
     """What a program writes, and its seconds."""
     before = resource.getrusage(resource.RUSAGE_CHILDREN)
-    out = subprocess.run([os.path.join(HERE, "../target/bin", program)], input=text, text=True, stdout=subprocess.PIPE, check=True)
+    out = subprocess.run([os.path.join(HERE, "../crates", program, "out", program)], input=text, text=True, stdout=subprocess.PIPE, check=True)
     after = resource.getrusage(resource.RUSAGE_CHILDREN)
     return out.stdout, after.ru_utime + after.ru_stime - before.ru_utime - before.ru_stime
 

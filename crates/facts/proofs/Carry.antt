@@ -1,5 +1,5 @@
--- The check of a table moves with what it reads: `table-change` gives it again for rows that agree with the old ones below the counts, with other
--- literals, marks and counters whose own facts are given. `used-facts` is its case for the parts in use of the rows. Assumes nothing.
+-- The check of a table moves with what it reads: `table_change` gives it again for rows that agree with the old ones below the counts, with other
+-- literals, marks and counters whose own facts are given. `used_facts` is its case for the parts in use of the rows. Assumes nothing.
 use Rattle.std.specs.Prelude.{ℕ, zero, suc, ◌+◌, ◌/◌, ◌<◌, ◌≤◌, List, true, ◌≡◌, refl, length, get_or, ℤ, pos}
 use Rattle.std.proofs.Common.{sym, ap, ap₂, ◌∙◌, arith}
 use Rattle.paper.specs.Limits.{node_words}

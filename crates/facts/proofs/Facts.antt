@@ -1,4 +1,4 @@
--- What the table check says, as plain facts: `table-facts` takes a check that passes apart, and `table-made` makes it again of the facts.
+-- What the table check says, as plain facts: `table_facts` takes a check that passes apart, and `table_made` makes it again of the facts.
 -- Assumes nothing.
 use Rattle.std.specs.Prelude.{ℕ, zero, suc, ◌+◌, ◌-◌, ◌*◌, ◌/◌, ◌<◌, ◌≤◌, max, List, Bool, true, false, cond, not, ◌&&◌, ◌||◌, ◌≡◌, refl, length, get_or, take, eqb, leb, ltb, ℤ, pos, negsuc, nat_abs}
 use Rattle.std.proofs.Common.{ap, inl, inr, ⊎_elim, add-zero, arith, length-take-le, get_or-take, leb-true, ltb-true, eqb-true, eq-eqb, ne_eqb, le-leb, lt-ltb}

@@ -1,4 +1,4 @@
--- What the table check says, as plain facts: `table-facts` takes a check that passes apart, and `table-made` makes it again of the facts.
+-- What the table check says, as plain facts: `table_facts` takes a check that passes apart, and `table_made` makes it again of the facts.
 -- Assumes nothing.
 use Rattle.std.specs.Prelude.{ℕ, ◌+◌, ◌<◌, ◌≤◌, max, List, true, false, not, ◌||◌, ◌≡◌, ◌⊎◌, length, get_or, eqb, ℤ, pos, nat_abs}
 use Rattle.paper.specs.Limits.{node_limit, cell_limit, depth_limit, mul_limit, key_limit, var_limit}

@@ -1,4 +1,4 @@
--- Where a run's clauses go changes nothing else (`define-hom`, `weigh-hom` of facts). Here: clauses behind those that are there.
+-- Where a run's clauses go changes nothing else (`define_hom`, `weigh_hom` of facts). Here: clauses behind those that are there.
 use Rattle.std.specs.Prelude.{◌≡◌, List, [], ◌∷◌, ◌++◌, ℕ, ℤ}
 use Rattle.std.proofs.Common.{sym, ap, append_assoc, append-nil}
 use Rattle.paper.specs.declared.Clause.{Clause}

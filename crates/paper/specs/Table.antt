@@ -1,7 +1,7 @@
 -- 01: "The table check accepts exactly: counters inside the rows, the limits and 1 ≤ F ≤ next ≤ last + 1 ≤ 2147483648; child ids smaller
 -- than the node's own; every word, key and depth by the rules above; input literals nonzero with variables below F; marks at most 3
 -- (general: at most 1); a mark only where there is a literal; cell literals 0 or from F to next - 1."
--- The nodes are read by `at`, and their row holds `holds` of them: over the words `at` is `nodeAt nodes`, over records it is the record itself.
+-- The nodes are read by `at`, and their row holds `holds` of them: over the words `at` is `node_at nodes`, over records it is the record itself.
 use Rattle.std.specs.Prelude.{ℕ, ◌+◌, ◌/◌, max, List, Bool, false, cond, not, ◌&&◌, ◌||◌, length, eqb, leb, ltb, ℤ}
 use Rattle.paper.specs.Limits.{node_limit, cell_limit, depth_limit, mul_limit, var_limit, node_words}
 use Rattle.paper.specs.Below.{all_below, sum_below}
@@ -17,7 +17,7 @@ nodes_fit n holds = leb n node_limit && leb n holds
 abbrev pub range_ok : ℕ → ℕ → ℕ → Bool
 range_ok first next last = leb last var_limit && ((leb 1 first && leb first next) && leb next (last + 1))
 
--- "counters inside the rows, the limits": the input, literal and mark rows have this in `inputsOk` and `cellsOk`
+-- "counters inside the rows, the limits": the input, literal and mark rows have this in `inputs_ok` and `cells_ok`
 unfoldable pub counters_ok : Counters → ℕ → ℕ → ℕ → Bool
 counters_ok c holds keys clauses =
     (((nodes_fit c.nodes holds && range_ok c.first c.next c.last) && leb c.cells cell_limit) && leb c.cells keys) && leb c.words clauses

@@ -160,7 +160,7 @@ pub fn finish(
     s.ok & (s.todo == 0) & (s.leaves == c.inputs) & (s.cells == c.cells)
 }
 
-// The one function over a slice of structs: its proof is a walk by hand. What it does with a record is in `step`.
+// The one function over a slice of structs. What it does with a record is in `step`.
 pub fn check_records(
     nodes: &[Record],
     inputs: &[i32],

@@ -37,7 +37,7 @@ fn words_of(a: Record, b: Record, u: Record) -> [u32; 24] {
     ]
 }
 
-// The one function that lends an array of records: its proof is a walk by hand.
+// The one function that lends an array of records.
 fn check_three(
     nodes: [Record; 3],
     inputs: &[i32],

@@ -1,5 +1,5 @@
 -- What a run with clauses in a row has to do with the plain run, whose clauses are a list; and what the counts of a run hang on. Both for the
--- unweighted and for the weighted run: `Runs` says what is proved of each, and specs/Dry.antt goes on from there for either.
+-- unweighted and for the weighted run: `Runs` says what is proved of each, and Dry.antt goes on from there for either.
 use Rattle.std.specs.Prelude.{◌≡◌, refl, Bool, List, [], ◌∷◌, ◌++◌, map, ℕ, zero, suc, ◌+◌, ◌-◌, ◌≤◌, ◌^◌, min, eqb, ℤ, pos, neg_ℤ, length, get_or, set, take, drop}
 use Rattle.std.proofs.Common.{sym, ap, ap₂, ◌∙◌, add-zero, arith, length-append, length-take, length-drop, length-set}
 use Rattle.std.proofs.Math.Bool.{true, false, cond}

@@ -1,4 +1,4 @@
-// What the demands share: copies of the cells for the dry run, and in specs/ the laws of both runs.
+// What the demands share: copies of the cells for the dry run, and in proofs/ the laws of both runs.
 #![tactic(auto)]
 
 ghost use Rattle.std.specs.Prelude.{◌≡◌, length};
