@@ -1,4 +1,5 @@
 // Standard input, line by line, through a buffer.
+
 // `at` and `have` are of the buffer. `len` is of the line, one more than the line can hold where it is longer than that.
 // `ended`: the line is whole. `done`: the input is at its end.
 #[derive(Clone, Copy)]
