@@ -11,17 +11,9 @@ import os
 import re
 import sys
 
-NAME = r"[^\s:;(){}\[\].,⌜⌝\"«»◌]+"
-WORD = re.compile(NAME)
+from respell import NAME, WORD, files
+
 HEAD = re.compile(r"^((?:(?:unfoldable|abbrev|pub|data|record|ruleset)\s+)*)(" + NAME + r")")
-
-
-def files(end):
-    for folder, dirs, names in os.walk("crates"):
-        dirs[:] = sorted(d for d in dirs if d != "out")
-        for f in sorted(names):
-            if f.endswith(end):
-                yield os.path.join(folder, f)
 
 
 class Block:

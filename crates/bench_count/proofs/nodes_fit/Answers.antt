@@ -9,8 +9,7 @@ pub loop-k-init : goal.loop-k-init
 loop-k-init c = (omega arith, sym (all_none _))
 
 pub loop-k-preserved : goal.loop-k-preserved
-loop-k-preserved c = let s = c in
-    let l = c.loop-k in
+loop-k-preserved c = let l = c.loop-k in
     let n = c.node_at-n.ensures in
-    let e = c.node_fit-ok.ensures ∙ node_is s.args.nodes.now s.args.ni s.args.nc l.k _ _ _ n c.node_at-l.ensures c.node_at-r.ensures in
-    (omega arith, all_step _ _ _ (fit_at s.args.nodes.now s.args.ni s.args.nc) l.invariant.1 e)
+    let e = c.node_fit-ok.ensures ∙ node_is c.args.nodes.now c.args.ni c.args.nc l.k _ _ _ n c.node_at-l.ensures c.node_at-r.ensures in
+    (omega arith, all_step _ _ _ (fit_at c.args.nodes.now c.args.ni c.args.nc) l.invariant.1 e)

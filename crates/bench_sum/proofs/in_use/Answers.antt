@@ -9,63 +9,53 @@ use Rattle.bench_sum.proofs.Laws.{moved}
 use Rattle.bench_sum.proofs.in_use.Goals as goal
 
 pub overflow_mul-words : goal.overflow_mul-words
-overflow_mul-words c = let s = c in
-    let t = sym c.table_ok.ensures ∙ c.if-not-table_ok.false in
+overflow_mul-words c = let t = sym c.table_ok.ensures ∙ c.if-not-table_ok.false in
     let f = table_facts _ _ _ _ _ _ _ _ t in
     record { fits = omega (arith, f.counters.node_limit_met) }
 
 pub slice_bounds-weighed-end : goal.slice_bounds-weighed-end
-slice_bounds-weighed-end c = let s = c in
-    let t = sym c.table_ok.ensures ∙ c.if-not-table_ok.false in
+slice_bounds-weighed-end c = let t = sym c.table_ok.ensures ∙ c.if-not-table_ok.false in
     let f = table_facts _ _ _ _ _ _ _ _ t in
     sym (used_length _ _ (words_fit f.counters))
 
 pub slice_bounds-weighed-end-2 : goal.slice_bounds-weighed-end-2
-slice_bounds-weighed-end-2 c = let s = c in
-    let t = sym c.table_ok.ensures ∙ c.if-not-table_ok.false in
+slice_bounds-weighed-end-2 c = let t = sym c.table_ok.ensures ∙ c.if-not-table_ok.false in
     let f = table_facts _ _ _ _ _ _ _ _ t in
     sym (used_length _ _ f.input_row)
 
 pub slice_bounds-weighed-end-3 : goal.slice_bounds-weighed-end-3
-slice_bounds-weighed-end-3 c = let s = c in
-    let t = sym c.table_ok.ensures ∙ c.if-not-table_ok.false in
+slice_bounds-weighed-end-3 c = let t = sym c.table_ok.ensures ∙ c.if-not-table_ok.false in
     let f = table_facts _ _ _ _ _ _ _ _ t in
     sym (used_length _ _ f.counters.cell_row)
 
 pub slice_bounds-weighed-end-4 : goal.slice_bounds-weighed-end-4
-slice_bounds-weighed-end-4 c = let s = c in
-    let t = sym c.table_ok.ensures ∙ c.if-not-table_ok.false in
+slice_bounds-weighed-end-4 c = let t = sym c.table_ok.ensures ∙ c.if-not-table_ok.false in
     let f = table_facts _ _ _ _ _ _ _ _ t in
     f.lit_row
 
 pub slice_bounds-weighed-end-5 : goal.slice_bounds-weighed-end-5
-slice_bounds-weighed-end-5 c = let s = c in
-    let t = sym c.table_ok.ensures ∙ c.if-not-table_ok.false in
+slice_bounds-weighed-end-5 c = let t = sym c.table_ok.ensures ∙ c.if-not-table_ok.false in
     let f = table_facts _ _ _ _ _ _ _ _ t in
     sym (used_length _ _ f.lit_row)
 
 pub slice_bounds-weighed-end-6 : goal.slice_bounds-weighed-end-6
-slice_bounds-weighed-end-6 c = let s = c in
-    let t = sym c.table_ok.ensures ∙ c.if-not-table_ok.false in
+slice_bounds-weighed-end-6 c = let t = sym c.table_ok.ensures ∙ c.if-not-table_ok.false in
     let f = table_facts _ _ _ _ _ _ _ _ t in
     f.mark_row
 
 pub slice_bounds-weighed-end-7 : goal.slice_bounds-weighed-end-7
-slice_bounds-weighed-end-7 c = let s = c in
-    let t = sym c.table_ok.ensures ∙ c.if-not-table_ok.false in
+slice_bounds-weighed-end-7 c = let t = sym c.table_ok.ensures ∙ c.if-not-table_ok.false in
     let f = table_facts _ _ _ _ _ _ _ _ t in
     sym (used_length _ _ f.mark_row)
 
 pub weighed-requires-clause-fit : goal.weighed-requires-clause-fit
-weighed-requires-clause-fit c = let s = c in
-    let t = sym c.table_ok.ensures ∙ c.if-not-table_ok.false in
+weighed-requires-clause-fit c = let t = sym c.table_ok.ensures ∙ c.if-not-table_ok.false in
     let f = table_facts _ _ _ _ _ _ _ _ t in
-    let small : length s.args.row.now ≤ 2 ^ 62 = omega (arith, s.well_formed.1.1.1.1.1.0) in
-    let r = ready_of s.args.nodes.now f small in moved _ _ _ _ (run_of s.args.c) s.args.from (omega (arith, small, c.if-row-from.false)) r.fit
+    let small : length c.args.row.now ≤ 2 ^ 62 = omega (arith, c.well_formed.1.1.1.1.1.0) in
+    let r = ready_of c.args.nodes.now f small in moved _ _ _ _ (run_of c.args.c) c.args.from (omega (arith, small, c.if-row-from.false)) r.fit
 
 pub weighed-requires-clause-generals : goal.weighed-requires-clause-generals
-weighed-requires-clause-generals c = let s = c in
-    let t = sym c.table_ok.ensures ∙ c.if-not-table_ok.false in
+weighed-requires-clause-generals c = let t = sym c.table_ok.ensures ∙ c.if-not-table_ok.false in
     let f = table_facts _ _ _ _ _ _ _ _ t in
-    let small : length s.args.row.now ≤ 2 ^ 62 = omega (arith, s.well_formed.1.1.1.1.1.0) in
-    let r = ready_of s.args.nodes.now f small in r.generals
+    let small : length c.args.row.now ≤ 2 ^ 62 = omega (arith, c.well_formed.1.1.1.1.1.0) in
+    let r = ready_of c.args.nodes.now f small in r.generals

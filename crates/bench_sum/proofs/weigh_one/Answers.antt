@@ -9,5 +9,4 @@ use Rattle.runs.proofs.Dry.{few_ends}
 use Rattle.bench_sum.proofs.weigh_one.Goals as goal
 
 pub weigh-requires-clause-ends : goal.weigh-requires-clause-ends
-weigh-requires-clause-ends c = let s = c in
-    let o : s.args.y ≤ outs s.args.nodes.now s.args.id = omega (arith, c.if-con_len-y.false, c.con_len.ensures, ap con_len c.node_at.ensures) in few_ends (weighing s.args.nodes.now s.args.inputs.now s.args.keys.now s.args.id s.args.y) (weighing_runs s.args.nodes.now s.args.inputs.now s.args.keys.now s.args.id s.args.y) (s.args.id + 1) s.args.lits.now s.args.marks.now s.args.row.now (omega (arith, s.well_formed.1.1.1.1.1.0)) _ s.requires.fit.counted s.requires.fit.some (omega (arith, c.if-run-gt1000000.false, c.if-lits-gt1000000.false))
+weigh-requires-clause-ends c = let o : c.args.y ≤ outs c.args.nodes.now c.args.id = omega (arith, c.if-con_len-y.false, c.con_len.ensures, ap con_len c.node_at.ensures) in few_ends (weighing c.args.nodes.now c.args.inputs.now c.args.keys.now c.args.id c.args.y) (weighing_runs c.args.nodes.now c.args.inputs.now c.args.keys.now c.args.id c.args.y) (c.args.id + 1) c.args.lits.now c.args.marks.now c.args.row.now (omega (arith, c.well_formed.1.1.1.1.1.0)) _ c.requires.fit.counted c.requires.fit.some (omega (arith, c.if-run-gt1000000.false, c.if-lits-gt1000000.false))

@@ -11,10 +11,8 @@ loop-i-init c = (omega arith, first_none _)
 
 pub returns-then-k-eq3 : goal.returns-then-k-eq3
 returns-then-k-eq3 c =
-    let lp = c in
-    sym (first_found lp.args.count _ lp.loop-i.i c.loop-i-test.true lp.loop-i.invariant.1 (ap (λ (n : Node). eqb n.kind 3) (sym c.node_at-n.ensures) ∙ eq-eqb _ _ c.if-k-eq3.true))
+    sym (first_found c.args.count _ c.loop-i.i c.loop-i-test.true c.loop-i.invariant.1 (ap (λ (n : Node). eqb n.kind 3) (sym c.node_at-n.ensures) ∙ eq-eqb _ _ c.if-k-eq3.true))
 
 pub loop-i-preserved : goal.loop-i-preserved
 loop-i-preserved c =
-    let lp = c in
-    (omega arith, first_more lp.loop-i.i _ lp.loop-i.invariant.1 (ap (λ (n : Node). eqb n.kind 3) (sym c.node_at-n.ensures) ∙ ne_eqb _ _ c.if-k-eq3.false))
+    (omega arith, first_more c.loop-i.i _ c.loop-i.invariant.1 (ap (λ (n : Node). eqb n.kind 3) (sym c.node_at-n.ensures) ∙ ne_eqb _ _ c.if-k-eq3.false))

@@ -16,21 +16,17 @@ loop-i-init c = (omega arith, first_none _)
 
 pub returns-then-leaf_here : goal.returns-then-leaf_here
 returns-then-leaf_here c =
-    let lp = c in
-    let st = lp in
-    let a = st.args in
+    let a = c.args in
     let z = to_z w32 (of_z w32 a.x) in
-    let q : leaf_here a.inputs.now (node_at a.nodes.now lp.loop-i.i) z ≡ c.leaf_here.result =
+    let q : leaf_here a.inputs.now (node_at a.nodes.now c.loop-i.i) z ≡ c.leaf_here.result =
     sym (c.leaf_here.ensures ∙ ap (λ (n : Node). leaf_here a.inputs.now n z) c.node_at-n.ensures) in
-    sym (first_found a.count (λ (k : ℕ). leaf_here a.inputs.now (node_at a.nodes.now k) z) lp.loop-i.i c.loop-i-test.true lp.loop-i.invariant.1 (q ∙ c.if-leaf_here.true))
-    ∙ ap (λ (z : ℤ). first_leaf a.nodes.now a.inputs.now a.count z) (to_z-of_z w32 a.x st.ranges.x)
+    sym (first_found a.count (λ (k : ℕ). leaf_here a.inputs.now (node_at a.nodes.now k) z) c.loop-i.i c.loop-i-test.true c.loop-i.invariant.1 (q ∙ c.if-leaf_here.true))
+    ∙ ap (λ (z : ℤ). first_leaf a.nodes.now a.inputs.now a.count z) (to_z-of_z w32 a.x c.ranges.x)
 
 pub loop-i-preserved : goal.loop-i-preserved
 loop-i-preserved c =
-    let lp = c in
-    let st = lp in
-    let a = st.args in
+    let a = c.args in
     let z = to_z w32 (of_z w32 a.x) in
-    let q : leaf_here a.inputs.now (node_at a.nodes.now lp.loop-i.i) z ≡ c.leaf_here.result =
+    let q : leaf_here a.inputs.now (node_at a.nodes.now c.loop-i.i) z ≡ c.leaf_here.result =
     sym (c.leaf_here.ensures ∙ ap (λ (n : Node). leaf_here a.inputs.now n z) c.node_at-n.ensures) in
-    (omega arith, first_more lp.loop-i.i _ lp.loop-i.invariant.1 (q ∙ c.if-leaf_here.false))
+    (omega arith, first_more c.loop-i.i _ c.loop-i.invariant.1 (q ∙ c.if-leaf_here.false))

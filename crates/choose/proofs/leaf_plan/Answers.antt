@@ -18,30 +18,26 @@ returns-then-not-table_ok c = table_fails _ _ _ _ _ (sym c.table_ok.ensures ∙ 
 pub returns-then-not-literal_ok : goal.returns-then-not-literal_ok
 unfolding leaf_plan
 returns-then-not-literal_ok c =
-    let st = c in
-    let a = st.args in
-    literal_fails _ _ _ _ _ (sym c.table_ok.ensures ∙ c.if-not-table_ok.false) (sym (c.literal_ok.ensures ∙ ap (λ (z : ℤ). lit_ok z a.c.first) (to_z-of_z w32 a.x st.ranges.x)) ∙ c.if-not-literal_ok.true)
+    let a = c.args in
+    literal_fails _ _ _ _ _ (sym c.table_ok.ensures ∙ c.if-not-table_ok.false) (sym (c.literal_ok.ensures ∙ ap (λ (z : ℤ). lit_ok z a.c.first) (to_z-of_z w32 a.x c.ranges.x)) ∙ c.if-not-literal_ok.true)
 
 pub returns-then-found-count : goal.returns-then-found-count
 unfolding leaf_plan
 returns-then-found-count c =
-    let st = c in
-    let a = st.args in
-    let f = (c.find_leaf-found.ensures ∙ ap (λ (z : ℤ). first_leaf a.nodes.now a.inputs.now a.c.nodes z) (to_z-of_z w32 a.x st.ranges.x)) in
-    ap Old f ∙ found_old _ _ _ _ _ (sym c.table_ok.ensures ∙ c.if-not-table_ok.false) (sym (c.literal_ok.ensures ∙ ap (λ (z : ℤ). lit_ok z a.c.first) (to_z-of_z w32 a.x st.ranges.x)) ∙ c.if-not-literal_ok.false) (rw f at c.if-found-count.true)
+    let a = c.args in
+    let f = (c.find_leaf-found.ensures ∙ ap (λ (z : ℤ). first_leaf a.nodes.now a.inputs.now a.c.nodes z) (to_z-of_z w32 a.x c.ranges.x)) in
+    ap Old f ∙ found_old _ _ _ _ _ (sym c.table_ok.ensures ∙ c.if-not-table_ok.false) (sym (c.literal_ok.ensures ∙ ap (λ (z : ℤ). lit_ok z a.c.first) (to_z-of_z w32 a.x c.ranges.x)) ∙ c.if-not-literal_ok.false) (rw f at c.if-found-count.true)
 
 pub returns-then-room_for_node-c : goal.returns-then-room_for_node-c
 unfolding leaf_plan
 returns-then-room_for_node-c c =
-    let st = c in
-    let a = st.args in
-    let f = (c.find_leaf-found.ensures ∙ ap (λ (z : ℤ). first_leaf a.nodes.now a.inputs.now a.c.nodes z) (to_z-of_z w32 a.x st.ranges.x)) in
-    makes_new _ _ _ _ _ (sym c.table_ok.ensures ∙ c.if-not-table_ok.false) (sym (c.literal_ok.ensures ∙ ap (λ (z : ℤ). lit_ok z a.c.first) (to_z-of_z w32 a.x st.ranges.x)) ∙ c.if-not-literal_ok.false) (rw f at c.if-found-count.false) (sym (ap (λ (b : Bool). b && ltb a.c.inputs (length a.inputs.now)) c.room_for_node.ensures) ∙ c.if-room_for_node-c.true)
+    let a = c.args in
+    let f = (c.find_leaf-found.ensures ∙ ap (λ (z : ℤ). first_leaf a.nodes.now a.inputs.now a.c.nodes z) (to_z-of_z w32 a.x c.ranges.x)) in
+    makes_new _ _ _ _ _ (sym c.table_ok.ensures ∙ c.if-not-table_ok.false) (sym (c.literal_ok.ensures ∙ ap (λ (z : ℤ). lit_ok z a.c.first) (to_z-of_z w32 a.x c.ranges.x)) ∙ c.if-not-literal_ok.false) (rw f at c.if-found-count.false) (sym (ap (λ (b : Bool). b && ltb a.c.inputs (length a.inputs.now)) c.room_for_node.ensures) ∙ c.if-room_for_node-c.true)
 
 pub returns-else-room_for_node-c : goal.returns-else-room_for_node-c
 unfolding leaf_plan
 returns-else-room_for_node-c c =
-    let st = c in
-    let a = st.args in
-    let f = (c.find_leaf-found.ensures ∙ ap (λ (z : ℤ). first_leaf a.nodes.now a.inputs.now a.c.nodes z) (to_z-of_z w32 a.x st.ranges.x)) in
-    room_fails _ _ _ _ _ (sym c.table_ok.ensures ∙ c.if-not-table_ok.false) (sym (c.literal_ok.ensures ∙ ap (λ (z : ℤ). lit_ok z a.c.first) (to_z-of_z w32 a.x st.ranges.x)) ∙ c.if-not-literal_ok.false) (rw f at c.if-found-count.false) (sym (ap (λ (b : Bool). b && ltb a.c.inputs (length a.inputs.now)) c.room_for_node.ensures) ∙ c.if-room_for_node-c.false)
+    let a = c.args in
+    let f = (c.find_leaf-found.ensures ∙ ap (λ (z : ℤ). first_leaf a.nodes.now a.inputs.now a.c.nodes z) (to_z-of_z w32 a.x c.ranges.x)) in
+    room_fails _ _ _ _ _ (sym c.table_ok.ensures ∙ c.if-not-table_ok.false) (sym (c.literal_ok.ensures ∙ ap (λ (z : ℤ). lit_ok z a.c.first) (to_z-of_z w32 a.x c.ranges.x)) ∙ c.if-not-literal_ok.false) (rw f at c.if-found-count.false) (sym (ap (λ (b : Bool). b && ltb a.c.inputs (length a.inputs.now)) c.room_for_node.ensures) ∙ c.if-room_for_node-c.false)

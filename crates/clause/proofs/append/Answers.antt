@@ -14,29 +14,27 @@ use Rattle.clause.proofs.append.Goals as goal
 
 pub loop-k-preserved : goal.loop-k-preserved
 loop-k-preserved c =
-    let s = c in
     let p = c.put in
     let l = c.loop-k in
-    let three : length s.args.c.lits ≡ 3 = search rules in
+    let three : length c.args.c.lits ≡ 3 = search rules in
     let back = to_z-of_z (told c.w-1.given) in
-    let e : p.new.row ≡ set l.row (s.args.at + l.k) (lit_at s.args.c.lits l.k) = p.ensures ∙ ap (set l.row (s.args.at + l.k)) back in
-    let in_words : l.k < length (words_of s.args.c) = omega (arith, words_length s.args.c three s.requires.1) in (
+    let e : p.new.row ≡ set l.row (c.args.at + l.k) (lit_at c.args.c.lits l.k) = p.ensures ∙ ap (set l.row (c.args.at + l.k)) back in
+    let in_words : l.k < length (words_of c.args.c) = omega (arith, words_length c.args.c three c.requires.1) in (
       omega arith,
       p.auto.row ∙ l.invariant.1,
-      ap (λ (r : List ℤ). sets r (s.args.at + (l.k + 1)) (drop (l.k + 1) (words_of s.args.c))) (e ∙ ap (set l.row (s.args.at + l.k)) (sym (words_at _ three s.requires.1 l.k (omega arith))))
-          ∙ sym (left_step l.row (words_of s.args.c) s.args.at l.k in_words)
+      ap (λ (r : List ℤ). sets r (c.args.at + (l.k + 1)) (drop (l.k + 1) (words_of c.args.c))) (e ∙ ap (set l.row (c.args.at + l.k)) (sym (words_at _ three c.requires.1 l.k (omega arith))))
+          ∙ sym (left_step l.row (words_of c.args.c) c.args.at l.k in_words)
           ∙ l.invariant.2,
     )
 
 pub returns : goal.returns
 unfolding lay
 returns c =
-    let s = c in
     let p = c.put-2 in
     let l = c.loop-k in
-    let three : length s.args.c.lits ≡ 3 = search rules in
-    let k : l.k ≡ s.args.c.len = omega arith in
-    let row : p.new.row ≡ sets s.args.row.now s.args.at (words_of s.args.c) =
-    p.ensures ∙ sym (ap (sets l.row (s.args.at + s.args.c.len)) (words_last s.args.c three s.requires.1))
-    ∙ sym (ap (λ (m : ℕ). sets l.row (s.args.at + m) (drop m (words_of s.args.c))) k) ∙ l.invariant.2 in
-    ap₂ at_row row (c.min.ensures ∙ ap (λ (m : ℕ). min (s.args.at + m) (2 ^ 62)) (sym (words_length s.args.c three s.requires.1)))
+    let three : length c.args.c.lits ≡ 3 = search rules in
+    let k : l.k ≡ c.args.c.len = omega arith in
+    let row : p.new.row ≡ sets c.args.row.now c.args.at (words_of c.args.c) =
+    p.ensures ∙ sym (ap (sets l.row (c.args.at + c.args.c.len)) (words_last c.args.c three c.requires.1))
+    ∙ sym (ap (λ (m : ℕ). sets l.row (c.args.at + m) (drop m (words_of c.args.c))) k) ∙ l.invariant.2 in
+    ap₂ at_row row (c.min.ensures ∙ ap (λ (m : ℕ). min (c.args.at + m) (2 ^ 62)) (sym (words_length c.args.c three c.requires.1)))

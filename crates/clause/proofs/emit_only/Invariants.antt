@@ -8,7 +8,7 @@ use Rattle.paper.specs.Plain.{only_clause}
 use Rattle.clause.specs.Row.{lay, at_row, Row}
 use Rattle.clause.proofs.emit_only.Given as goal
 
-abbrev each : List ℤ → List ℤ → ℕ → ℤ → ℕ → Row → Row
+abbrev pub each : List ℤ → List ℤ → ℕ → ℤ → ℕ → Row → Row
 each l r i o x t = lay t (only_clause l r x (i - x) o)
 
 abbrev pub invariant-loop-x : goal.invariant-loop-x

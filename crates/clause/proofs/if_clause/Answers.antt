@@ -12,16 +12,13 @@ returns-then-y-eq0 c = ap clause1 (to_z-of_z c.ranges.o) ∙ sym (if_1 _ _ _ _ _
 
 pub returns-then-x-eq0 : goal.returns-then-x-eq0
 returns-then-x-eq0 c =
-    let s = c in
-    ap₂ clause2 (neg_back (lit_at s.args.right.now (s.args.y - 1)) (told c.q-1.given) (s.requires.neg_2 (s.args.y - 1) (omega (arith, s.requires.x_in_bounds)))) (to_z-of_z s.ranges.o) ∙ sym (if_r _ _ _ _ _ c.if-x-eq0.true c.if-y-eq0.false)
+    ap₂ clause2 (neg_back (lit_at c.args.right.now (c.args.y - 1)) (told c.q-1.given) (c.requires.neg_2 (c.args.y - 1) (omega (arith, c.requires.x_in_bounds)))) (to_z-of_z c.ranges.o) ∙ sym (if_r _ _ _ _ _ c.if-x-eq0.true c.if-y-eq0.false)
 
 pub returns-then-y-eq0-2 : goal.returns-then-y-eq0-2
 returns-then-y-eq0-2 c =
-    let s = c in
-    ap₂ clause2 (neg_back (lit_at s.args.left.now (s.args.x - 1)) (told c.p-1.given) (s.requires.neg (s.args.x - 1) (omega (arith, s.requires.x_in_bounds)))) (to_z-of_z s.ranges.o) ∙ sym (if_l _ _ _ _ _ c.if-x-eq0.false c.if-y-eq0-2.true)
+    ap₂ clause2 (neg_back (lit_at c.args.left.now (c.args.x - 1)) (told c.p-1.given) (c.requires.neg (c.args.x - 1) (omega (arith, c.requires.x_in_bounds)))) (to_z-of_z c.ranges.o) ∙ sym (if_l _ _ _ _ _ c.if-x-eq0.false c.if-y-eq0-2.true)
 
 pub returns : goal.returns
 returns c =
-    let s = c in
-    clause3_eq (neg_back (lit_at s.args.left.now (s.args.x - 1)) (told c.p-1.given) (s.requires.neg (s.args.x - 1) (omega (arith, s.requires.x_in_bounds)))) (neg_back (lit_at s.args.right.now (s.args.y - 1)) (told c.q-2-1.given) (s.requires.neg_2 (s.args.y - 1) (omega (arith, s.requires.x_in_bounds)))) (to_z-of_z s.ranges.o)
+    clause3_eq (neg_back (lit_at c.args.left.now (c.args.x - 1)) (told c.p-1.given) (c.requires.neg (c.args.x - 1) (omega (arith, c.requires.x_in_bounds)))) (neg_back (lit_at c.args.right.now (c.args.y - 1)) (told c.q-2-1.given) (c.requires.neg_2 (c.args.y - 1) (omega (arith, c.requires.x_in_bounds)))) (to_z-of_z c.ranges.o)
     ∙ sym (if_2 _ _ _ _ _ c.if-x-eq0.false c.if-y-eq0-2.false)

@@ -10,16 +10,13 @@ returns-then-y-right c = ap clause1 (neg_back _ c.ranges.o c.requires.sfits) ∙
 
 pub returns-then-x-left : goal.returns-then-x-left
 returns-then-x-left c =
-    let s = c in
-    ap₂ clause2 (to_z-of_z (told c.q-1.given)) (neg_back _ s.ranges.o s.requires.sfits) ∙ sym (only_r _ _ _ _ _ c.if-x-left.true c.if-y-right.false)
+    ap₂ clause2 (to_z-of_z (told c.q-1.given)) (neg_back _ c.ranges.o c.requires.sfits) ∙ sym (only_r _ _ _ _ _ c.if-x-left.true c.if-y-right.false)
 
 pub returns-then-y-right-2 : goal.returns-then-y-right-2
 returns-then-y-right-2 c =
-    let s = c in
-    ap₂ clause2 (to_z-of_z (told c.p-1.given)) (neg_back _ s.ranges.o s.requires.sfits) ∙ sym (only_l _ _ _ _ _ c.if-x-left.false c.if-y-right-2.true)
+    ap₂ clause2 (to_z-of_z (told c.p-1.given)) (neg_back _ c.ranges.o c.requires.sfits) ∙ sym (only_l _ _ _ _ _ c.if-x-left.false c.if-y-right-2.true)
 
 pub returns : goal.returns
 returns c =
-    let s = c in
-    clause3_eq (to_z-of_z (told c.p-1.given)) (to_z-of_z (told c.q-2-1.given)) (neg_back _ s.ranges.o s.requires.sfits)
+    clause3_eq (to_z-of_z (told c.p-1.given)) (to_z-of_z (told c.q-2-1.given)) (neg_back _ c.ranges.o c.requires.sfits)
     ∙ sym (only_2 _ _ _ _ _ c.if-x-left.false c.if-y-right-2.false)

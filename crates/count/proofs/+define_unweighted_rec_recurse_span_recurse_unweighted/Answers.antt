@@ -1,132 +1,114 @@
 use mathlib.Core.Path.{refl, sym, ◌∙◌}
-use mathlib.Core.List.{List}
 use Prim.Native.Nat.{◌-◌}
 use native.Mathlib.Omega.{arith}
-use lib.IntN.{ℤ}
 use Rattle.paper.specs.Span.{span_turn, span_end}
-use Rattle.paper.specs.Plain.{define, demands_of, St}
-use Rattle.clause.specs.Row.{lay, Row}
+use Rattle.paper.specs.Plain.{define, demands_of}
+use Rattle.clause.specs.Row.{lay}
 use Rattle.count.specs.Run.{state}
 use Rattle.count.proofs.Laws.{pass_ok, walk_is_ok, return_is, pass_is, continue_is, walk_is, pass_ends, walk_ends, turn_ends, next_by, ends_1, ends_2, ends_3, ends_4}
-use Rattle.paper.specs.declared.Want.{Want}
-use Prim.Native.Nat.{ℕ}
+use Rattle.count.proofs.+define_unweighted_rec_recurse_span_recurse_unweighted.Invariants.{each}
 use Rattle.count.proofs.+define_unweighted_rec_recurse_span_recurse_unweighted.Goals as goal
-
-abbrev each : ℕ → List ℕ → List ℤ → ℕ → Want → ℕ → St Row → St Row
-each f ns ins child w j t = define lay f ns ins child j w t
 
 pub define_unweighted_rec-define_unweighted_rec-passed-requires : goal.define_unweighted_rec-define_unweighted_rec-passed-requires
 define_unweighted_rec-define_unweighted_rec-passed-requires t c =
-    let s = c in
-    let z = s.requires.ends in
+    let z = c.requires.ends in
     let e = sym c.precond_unweighted-p.ensures ∙ c.in-Pass.is in
-    let k = pass_ok s.args.nodes.now s.args.marks.now _ _ s.args.id s.args.i s.args.want s.requires.fit.ok s.requires.here _ _ e in (
-      omega (arith, s.decreases, k.falls),
+    let k = pass_ok c.args.nodes.now c.args.marks.now _ _ c.args.id c.args.i c.args.want c.requires.fit.ok c.requires.here _ _ e in (
+      omega (arith, c.decreases, k.falls),
       (
-        s.requires.fit,
+        c.requires.fit,
         (
-          record { below = omega (arith, k.falls, s.requires.here.below); out = k.out },
-          record { fuel = z.fuel - 1; enough = omega (arith, k.falls, z.enough); within = pass_ends s.args.nodes.now s.args.inputs.now s.args.id s.args.i s.args.want (state s.args.lits.now s.args.marks.now s.args.row.now s.args.run) z.fuel z.enough z.within _ _ e },
+          record { below = omega (arith, k.falls, c.requires.here.below); out = k.out },
+          record { fuel = z.fuel - 1; enough = omega (arith, k.falls, z.enough); within = pass_ends c.args.nodes.now c.args.inputs.now c.args.id c.args.i c.args.want (state c.args.lits.now c.args.marks.now c.args.row.now c.args.run) z.fuel z.enough z.within _ _ e },
         ),
       ),
     )
 
 pub define_unweighted_rec-encode_unweighted-requires-clause-cell : goal.define_unweighted_rec-encode_unweighted-requires-clause-cell
 define_unweighted_rec-encode_unweighted-requires-clause-cell t c =
-    let s = c in
-    let z = s.requires.ends in
     let e = sym c.precond_unweighted-p.ensures ∙ c.in-Pass.is in
-    let k = pass_ok s.args.nodes.now s.args.marks.now _ _ s.args.id s.args.i s.args.want s.requires.fit.ok s.requires.here _ _ e in
-    let d = c.define_unweighted_rec-passed.ensures in k.cell
+    let k = pass_ok c.args.nodes.now c.args.marks.now _ _ c.args.id c.args.i c.args.want c.requires.fit.ok c.requires.here _ _ e in
+    k.cell
 
 pub define_unweighted_rec-encode_unweighted-requires-clause-run_bound : goal.define_unweighted_rec-encode_unweighted-requires-clause-run_bound
 define_unweighted_rec-encode_unweighted-requires-clause-run_bound t c =
-    let s = c in
-    let z = s.requires.ends in
+    let z = c.requires.ends in
     let e = sym c.precond_unweighted-p.ensures ∙ c.in-Pass.is in
-    let k = pass_ok s.args.nodes.now s.args.marks.now _ _ s.args.id s.args.i s.args.want s.requires.fit.ok s.requires.here _ _ e in
-    let d = c.define_unweighted_rec-passed.ensures in next_by (pass_is s.args.nodes.now s.args.inputs.now s.args.id s.args.i s.args.want (state s.args.lits.now s.args.marks.now s.args.row.now s.args.run) _ _ _ _ e z.fuel z.enough (d.is (z.fuel - 1) (omega (arith, k.falls, z.enough))) refl) z.within
+    let k = pass_ok c.args.nodes.now c.args.marks.now _ _ c.args.id c.args.i c.args.want c.requires.fit.ok c.requires.here _ _ e in
+    let d = c.define_unweighted_rec-passed.ensures in next_by (pass_is c.args.nodes.now c.args.inputs.now c.args.id c.args.i c.args.want (state c.args.lits.now c.args.marks.now c.args.row.now c.args.run) _ _ _ _ e z.fuel z.enough (d.is (z.fuel - 1) (omega (arith, k.falls, z.enough))) refl) z.within
 
 pub define_unweighted_rec-recurse_unweighted-walked-requires : goal.define_unweighted_rec-recurse_unweighted-walked-requires
 define_unweighted_rec-recurse_unweighted-walked-requires t c =
-    let s = c in
-    let z = s.requires.ends in
+    let z = c.requires.ends in
     let e = sym c.precond_unweighted-p.ensures ∙ c.in-Continue.is in
-    let k = walk_is_ok s.args.nodes.now s.args.marks.now _ _ s.args.id s.args.i s.args.want s.requires.fit.ok s.requires.here _ _ e in (
-      omega (arith, s.decreases),
+    let k = walk_is_ok c.args.nodes.now c.args.marks.now _ _ c.args.id c.args.i c.args.want c.requires.fit.ok c.requires.here _ _ e in (
+      omega (arith, c.decreases),
       (
-        s.requires.fit,
+        c.requires.fit,
         (
           k.1,
-          record { fuel = z.fuel - 1; enough = omega (arith, z.enough); within = walk_ends s.args.nodes.now s.args.inputs.now s.args.id s.args.i s.args.want (state s.args.lits.now s.args.marks.now s.args.row.now s.args.run) z.fuel z.enough z.within _ _ e },
+          record { fuel = z.fuel - 1; enough = omega (arith, z.enough); within = walk_ends c.args.nodes.now c.args.inputs.now c.args.id c.args.i c.args.want (state c.args.lits.now c.args.marks.now c.args.row.now c.args.run) z.fuel z.enough z.within _ _ e },
         ),
       ),
     )
 
 pub define_unweighted_rec-encode_unweighted-requires-in-Continue-clause-cell : goal.define_unweighted_rec-encode_unweighted-requires-in-Continue-clause-cell
 define_unweighted_rec-encode_unweighted-requires-in-Continue-clause-cell t c =
-    let s = c in
-    let z = s.requires.ends in
     let e = sym c.precond_unweighted-p.ensures ∙ c.in-Continue.is in
-    let k = walk_is_ok s.args.nodes.now s.args.marks.now _ _ s.args.id s.args.i s.args.want s.requires.fit.ok s.requires.here _ _ e in
-    let d = c.recurse_unweighted-walked.ensures in k.0
+    let k = walk_is_ok c.args.nodes.now c.args.marks.now _ _ c.args.id c.args.i c.args.want c.requires.fit.ok c.requires.here _ _ e in
+    k.0
 
 pub define_unweighted_rec-encode_unweighted-requires-in-Continue-clause-run_bound : goal.define_unweighted_rec-encode_unweighted-requires-in-Continue-clause-run_bound
 define_unweighted_rec-encode_unweighted-requires-in-Continue-clause-run_bound t c =
-    let s = c in
-    let z = s.requires.ends in
+    let z = c.requires.ends in
     let e = sym c.precond_unweighted-p.ensures ∙ c.in-Continue.is in
-    let k = walk_is_ok s.args.nodes.now s.args.marks.now _ _ s.args.id s.args.i s.args.want s.requires.fit.ok s.requires.here _ _ e in
-    let d = c.recurse_unweighted-walked.ensures in next_by (continue_is s.args.nodes.now s.args.inputs.now s.args.id s.args.i s.args.want (state s.args.lits.now s.args.marks.now s.args.row.now s.args.run) _ _ _ _ e z.fuel z.enough (d.is (z.fuel - 1) (omega (arith, z.enough))) refl) z.within
+    let k = walk_is_ok c.args.nodes.now c.args.marks.now _ _ c.args.id c.args.i c.args.want c.requires.fit.ok c.requires.here _ _ e in
+    let d = c.recurse_unweighted-walked.ensures in next_by (continue_is c.args.nodes.now c.args.inputs.now c.args.id c.args.i c.args.want (state c.args.lits.now c.args.marks.now c.args.row.now c.args.run) _ _ _ _ e z.fuel z.enough (d.is (z.fuel - 1) (omega (arith, z.enough))) refl) z.within
 
 pub define_unweighted_rec-returns-in-Return : goal.define_unweighted_rec-returns-in-Return
 define_unweighted_rec-returns-in-Return t c =
-    let s = c in
     let e = sym c.precond_unweighted-p.ensures ∙ c.in-Return.is in
-    record { is = return_is s.args.nodes.now s.args.inputs.now s.args.id s.args.i s.args.want (state s.args.lits.now s.args.marks.now s.args.row.now s.args.run) e; fit = s.requires.fit }
+    record { is = return_is c.args.nodes.now c.args.inputs.now c.args.id c.args.i c.args.want (state c.args.lits.now c.args.marks.now c.args.row.now c.args.run) e; fit = c.requires.fit }
 
 pub define_unweighted_rec-returns-in-Pass : goal.define_unweighted_rec-returns-in-Pass
 define_unweighted_rec-returns-in-Pass t c =
-    let s = c in
-    let z = s.requires.ends in
+    let z = c.requires.ends in
     let e = sym c.precond_unweighted-p.ensures ∙ c.in-Pass.is in
-    let k = pass_ok s.args.nodes.now s.args.marks.now _ _ s.args.id s.args.i s.args.want s.requires.fit.ok s.requires.here _ _ e in
+    let k = pass_ok c.args.nodes.now c.args.marks.now _ _ c.args.id c.args.i c.args.want c.requires.fit.ok c.requires.here _ _ e in
     let d = c.define_unweighted_rec-passed.ensures in
     let g = c.encode_unweighted.ensures in
     record {
-      is = λ f h. pass_is s.args.nodes.now s.args.inputs.now s.args.id s.args.i s.args.want (state s.args.lits.now s.args.marks.now s.args.row.now s.args.run) _ _ _ _ e f h (d.is (f - 1) (omega (arith, k.falls))) g.is;
+      is = λ f h. pass_is c.args.nodes.now c.args.inputs.now c.args.id c.args.i c.args.want (state c.args.lits.now c.args.marks.now c.args.row.now c.args.run) _ _ _ _ e f h (d.is (f - 1) (omega (arith, k.falls))) g.is;
       fit = g.fit;
     }
 
 pub define_unweighted_rec-returns-in-Continue : goal.define_unweighted_rec-returns-in-Continue
 define_unweighted_rec-returns-in-Continue t c =
-    let s = c in
-    let z = s.requires.ends in
+    let z = c.requires.ends in
     let e = sym c.precond_unweighted-p.ensures ∙ c.in-Continue.is in
-    let k = walk_is_ok s.args.nodes.now s.args.marks.now _ _ s.args.id s.args.i s.args.want s.requires.fit.ok s.requires.here _ _ e in
+    let k = walk_is_ok c.args.nodes.now c.args.marks.now _ _ c.args.id c.args.i c.args.want c.requires.fit.ok c.requires.here _ _ e in
     let d = c.recurse_unweighted-walked.ensures in
     let g = c.encode_unweighted-in-Continue.ensures in
     record {
-      is = λ f h. continue_is s.args.nodes.now s.args.inputs.now s.args.id s.args.i s.args.want (state s.args.lits.now s.args.marks.now s.args.row.now s.args.run) _ _ _ _ e f h (d.is (f - 1) (omega arith)) g.is;
+      is = λ f h. continue_is c.args.nodes.now c.args.inputs.now c.args.id c.args.i c.args.want (state c.args.lits.now c.args.marks.now c.args.row.now c.args.run) _ _ _ _ e f h (d.is (f - 1) (omega arith)) g.is;
       fit = g.fit;
     }
 
 pub recurse_span-define_unweighted_rec-r-requires : goal.recurse_span-define_unweighted_rec-r-requires
 unfolding demands_of
 recurse_span-define_unweighted_rec-r-requires t c =
-    let s = c in
     let l = c.loop-k in
-    let z = s.requires.ends in (
-      omega (arith, s.decreases),
+    let z = c.requires.ends in (
+      omega (arith, c.decreases),
       (
         l.invariant.0,
         (
-          record { below = s.requires.child_in_bounds.0; out = omega (arith, s.requires.child_in_bounds.1, c.loop-k-test.true) },
+          record { below = c.requires.child_in_bounds.0; out = omega (arith, c.requires.child_in_bounds.1, c.loop-k-test.true) },
           record {
             fuel = z.fuel;
             enough = z.enough;
             within =
-                turn_ends z.fuel s.args.nodes.now s.args.inputs.now s.args.child s.args.want l.k s.args.span.to (state l.lits l.marks l.row l.r) _ c.loop-k-test.true
+                turn_ends z.fuel c.args.nodes.now c.args.inputs.now c.args.child c.args.want l.k c.args.span.to (state l.lits l.marks l.row l.r) _ c.loop-k-test.true
                 (l.invariant.4 z.fuel z.enough) z.within;
           },
         ),
@@ -135,93 +117,86 @@ recurse_span-define_unweighted_rec-r-requires t c =
 
 pub recurse_span-loop-k-preserved : goal.recurse_span-loop-k-preserved
 recurse_span-loop-k-preserved t c =
-    let s = c in
     let l = c.loop-k in
     let d = c.define_unweighted_rec-r in (
       d.ensures.fit,
       d.auto.lits ∙ l.invariant.1,
       d.auto.marks ∙ l.invariant.2,
       d.auto.row ∙ l.invariant.3,
-      λ f h. span_turn l.k s.args.span.to (each f s.args.nodes.now s.args.inputs.now s.args.child s.args.want) (state l.lits l.marks l.row l.r) _ _ c.loop-k-test.true (d.ensures.is f h) (l.invariant.4 f h),
+      λ f h. span_turn l.k c.args.span.to (each f c.args.nodes.now c.args.inputs.now c.args.child c.args.want) (state l.lits l.marks l.row l.r) _ _ c.loop-k-test.true (d.ensures.is f h) (l.invariant.4 f h),
     )
 
 pub recurse_span-returns : goal.recurse_span-returns
 unfolding demands_of
 recurse_span-returns t c =
-    let s = c in
     let l = c.loop-k in
     record {
-      is = λ f h. span_end l.k s.args.span.to (each f s.args.nodes.now s.args.inputs.now s.args.child s.args.want) _ _ c.loop-k-test.false (l.invariant.4 f h);
+      is = λ f h. span_end l.k c.args.span.to (each f c.args.nodes.now c.args.inputs.now c.args.child c.args.want) _ _ c.loop-k-test.false (l.invariant.4 f h);
       fit = l.invariant.0;
     }
 
 pub recurse_unweighted-recurse_span-r1-requires : goal.recurse_unweighted-recurse_span-r1-requires
 recurse_unweighted-recurse_span-r1-requires t c =
-    let s = c in
-    let w = s.requires.walk_ok in
-    let z = s.requires.ends in (
-      omega (arith, s.decreases, w.left_falls),
+    let w = c.requires.walk_ok in
+    let z = c.requires.ends in (
+      omega (arith, c.decreases, w.left_falls),
       (
-        s.requires.fit,
+        c.requires.fit,
         (
           (omega (arith, w.left_falls, w.below), w.left_if_to),
-          record { fuel = z.fuel; enough = omega (arith, w.left_falls, z.enough); within = ends_1 z.fuel s.args.nodes.now s.args.inputs.now s.args.rs (state s.args.lits.now s.args.marks.now s.args.row.now s.args.run) z.within },
+          record { fuel = z.fuel; enough = omega (arith, w.left_falls, z.enough); within = ends_1 z.fuel c.args.nodes.now c.args.inputs.now c.args.rs (state c.args.lits.now c.args.marks.now c.args.row.now c.args.run) z.within },
         ),
       ),
     )
 
 pub recurse_unweighted-recurse_span-r2-requires : goal.recurse_unweighted-recurse_span-r2-requires
 recurse_unweighted-recurse_span-r2-requires t c =
-    let s = c in
-    let w = s.requires.walk_ok in
-    let z = s.requires.ends in (
-      omega (arith, s.decreases, w.right_falls),
+    let w = c.requires.walk_ok in
+    let z = c.requires.ends in (
+      omega (arith, c.decreases, w.right_falls),
       (
         c.recurse_span-r1.ensures.fit,
         (
           (omega (arith, w.right_falls, w.below), w.right_if_to),
-          record { fuel = z.fuel; enough = omega (arith, w.right_falls, z.enough); within = ends_2 z.fuel s.args.nodes.now s.args.inputs.now s.args.rs (state s.args.lits.now s.args.marks.now s.args.row.now s.args.run) z.within _ (c.recurse_span-r1.ensures.is z.fuel (omega (arith, w.left_falls, z.enough))) },
+          record { fuel = z.fuel; enough = omega (arith, w.right_falls, z.enough); within = ends_2 z.fuel c.args.nodes.now c.args.inputs.now c.args.rs (state c.args.lits.now c.args.marks.now c.args.row.now c.args.run) z.within _ (c.recurse_span-r1.ensures.is z.fuel (omega (arith, w.left_falls, z.enough))) },
         ),
       ),
     )
 
 pub recurse_unweighted-recurse_span-r3-requires : goal.recurse_unweighted-recurse_span-r3-requires
 recurse_unweighted-recurse_span-r3-requires t c =
-    let s = c in
-    let w = s.requires.walk_ok in
-    let z = s.requires.ends in (
-      omega (arith, s.decreases, w.left_falls),
+    let w = c.requires.walk_ok in
+    let z = c.requires.ends in (
+      omega (arith, c.decreases, w.left_falls),
       (
         c.recurse_span-r2.ensures.fit,
         (
           (omega (arith, w.left_falls, w.below), w.left_only_to),
-          record { fuel = z.fuel; enough = omega (arith, w.left_falls, z.enough); within = ends_3 z.fuel s.args.nodes.now s.args.inputs.now s.args.rs (state s.args.lits.now s.args.marks.now s.args.row.now s.args.run) z.within _ _ (c.recurse_span-r1.ensures.is z.fuel (omega (arith, w.left_falls, z.enough))) (c.recurse_span-r2.ensures.is z.fuel (omega (arith, w.right_falls, z.enough))) },
+          record { fuel = z.fuel; enough = omega (arith, w.left_falls, z.enough); within = ends_3 z.fuel c.args.nodes.now c.args.inputs.now c.args.rs (state c.args.lits.now c.args.marks.now c.args.row.now c.args.run) z.within _ _ (c.recurse_span-r1.ensures.is z.fuel (omega (arith, w.left_falls, z.enough))) (c.recurse_span-r2.ensures.is z.fuel (omega (arith, w.right_falls, z.enough))) },
         ),
       ),
     )
 
 pub recurse_unweighted-recurse_span-requires : goal.recurse_unweighted-recurse_span-requires
 recurse_unweighted-recurse_span-requires t c =
-    let s = c in
-    let w = s.requires.walk_ok in
-    let z = s.requires.ends in (
-      omega (arith, s.decreases, w.right_falls),
+    let w = c.requires.walk_ok in
+    let z = c.requires.ends in (
+      omega (arith, c.decreases, w.right_falls),
       (
         c.recurse_span-r3.ensures.fit,
         (
           (omega (arith, w.right_falls, w.below), w.right_only_to),
-          record { fuel = z.fuel; enough = omega (arith, w.right_falls, z.enough); within = ends_4 z.fuel s.args.nodes.now s.args.inputs.now s.args.rs (state s.args.lits.now s.args.marks.now s.args.row.now s.args.run) z.within _ _ _ (c.recurse_span-r1.ensures.is z.fuel (omega (arith, w.left_falls, z.enough))) (c.recurse_span-r2.ensures.is z.fuel (omega (arith, w.right_falls, z.enough))) (c.recurse_span-r3.ensures.is z.fuel (omega (arith, w.left_falls, z.enough))) },
+          record { fuel = z.fuel; enough = omega (arith, w.right_falls, z.enough); within = ends_4 z.fuel c.args.nodes.now c.args.inputs.now c.args.rs (state c.args.lits.now c.args.marks.now c.args.row.now c.args.run) z.within _ _ _ (c.recurse_span-r1.ensures.is z.fuel (omega (arith, w.left_falls, z.enough))) (c.recurse_span-r2.ensures.is z.fuel (omega (arith, w.right_falls, z.enough))) (c.recurse_span-r3.ensures.is z.fuel (omega (arith, w.left_falls, z.enough))) },
         ),
       ),
     )
 
 pub recurse_unweighted-returns : goal.recurse_unweighted-returns
 recurse_unweighted-returns t c =
-    let s = c in
-    let w = s.requires.walk_ok in
+    let w = c.requires.walk_ok in
     let d4 = c.recurse_span.ensures in
     record {
-      is = λ f h. walk_is (define lay f s.args.nodes.now s.args.inputs.now) s.args.rs (state s.args.lits.now s.args.marks.now s.args.row.now s.args.run) _ _ _ _
+      is = λ f h. walk_is (define lay f c.args.nodes.now c.args.inputs.now) c.args.rs (state c.args.lits.now c.args.marks.now c.args.row.now c.args.run) _ _ _ _
           (c.recurse_span-r1.ensures.is f (omega (arith, w.left_falls))) (c.recurse_span-r2.ensures.is f (omega (arith, w.right_falls)))
           (c.recurse_span-r3.ensures.is f (omega (arith, w.left_falls))) (d4.is f (omega (arith, w.right_falls)));
       fit = d4.fit;

@@ -12,7 +12,7 @@ use Rattle.paper.specs.declared.Want.{Want}
 use Prim.Native.Nat.{ℕ}
 use Rattle.count.proofs.+define_unweighted_rec_recurse_span_recurse_unweighted.Given as goal
 
-abbrev each : ℕ → List ℕ → List ℤ → ℕ → Want → ℕ → St Row → St Row
+abbrev pub each : ℕ → List ℕ → List ℤ → ℕ → Want → ℕ → St Row → St Row
 each f ns ins child w j t = define lay f ns ins child j w t
 
 abbrev pub decreases-define_unweighted_rec : goal.decreases-define_unweighted_rec

@@ -9,7 +9,6 @@ use Rattle.count.proofs.con_lits.Goals as goal
 pub returns-then-n-eq0 : goal.returns-then-n-eq0
 unfolding con_lits
 returns-then-n-eq0 c =
-    let s = c in
     let n = c.node_at-n in
     let h : n.result.first + 1 - n.result.first ≡ 1 = omega arith in
     let k = eq-eqb _ 0 (sym (ap (λ (m : Node). m.kind) n.ensures) ∙ c.if-n-eq0.true) in
@@ -18,7 +17,6 @@ returns-then-n-eq0 c =
 pub returns : goal.returns
 unfolding con_lits
 returns c =
-    let s = c in
     let n = c.node_at-n in
     let h : n.result.first + c.con_len.result - n.result.first ≡ c.con_len.result = omega arith in
     let k = ne_eqb _ 0 (λ z. c.if-n-eq0.false (ap (λ (m : Node). m.kind) n.ensures ∙ z)) in

@@ -7,14 +7,11 @@ use Rattle.count.proofs.own_clauses.Goals as goal
 
 pub emit-requires-clause-neg : goal.emit-requires-clause-neg
 emit-requires-clause-neg c =
-    let s = c in
     let n : List ℤ → Type 0 = Neg in
-    let l = neg_lits_of s.args.nodes.now s.args.inputs.now s.args.lits.now s.args.left s.requires.neg s.requires.neg_2 in
-    let r = neg_lits_of s.args.nodes.now s.args.inputs.now s.args.lits.now s.args.right s.requires.neg s.requires.neg_2 in subst n (sym c.con_lits-l.ensures) l
+    let l = neg_lits_of c.args.nodes.now c.args.inputs.now c.args.lits.now c.args.left c.requires.neg c.requires.neg_2 in
+    subst n (sym c.con_lits-l.ensures) l
 
 pub emit-requires-clause-neg_2 : goal.emit-requires-clause-neg_2
 emit-requires-clause-neg_2 c =
-    let s = c in
     let n : List ℤ → Type 0 = Neg in
-    let l = neg_lits_of s.args.nodes.now s.args.inputs.now s.args.lits.now s.args.left s.requires.neg s.requires.neg_2 in
-    let r = neg_lits_of s.args.nodes.now s.args.inputs.now s.args.lits.now s.args.right s.requires.neg s.requires.neg_2 in subst n (sym c.con_lits-r.ensures) r
+    let r = neg_lits_of c.args.nodes.now c.args.inputs.now c.args.lits.now c.args.right c.requires.neg c.requires.neg_2 in subst n (sym c.con_lits-r.ensures) r

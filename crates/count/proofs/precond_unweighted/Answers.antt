@@ -4,7 +4,6 @@ use Rattle.count.proofs.precond_unweighted.Goals as goal
 
 pub returns-then-n-eq1 : goal.returns-then-n-eq1
 returns-then-n-eq1 c =
-    let s = c in
     c.precond_unit.ensures ∙ plan_is_unit _ _ _ _ _ _ _ c.node_at-n.ensures c.if-n-eq1.true c.missing-todo.ensures
 
 pub returns : goal.returns

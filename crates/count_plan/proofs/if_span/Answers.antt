@@ -7,11 +7,9 @@ use Rattle.count_plan.proofs.if_span.Goals as goal
 pub returns-then-x-eq0 : goal.returns-then-x-eq0
 unfolding if_span
 returns-then-x-eq0 c =
-    let s = c in
-    span_eq (ap (λ (n : ℕ). n - 1) (sym c.if-x-eq0.true ∙ ap (λ (m : ℕ). s.args.i + 1 - m) c.min.ensures)) c.min-to.ensures
+    span_eq (ap (λ (n : ℕ). n - 1) (sym c.if-x-eq0.true ∙ ap (λ (m : ℕ). c.args.i + 1 - m) c.min.ensures)) c.min-to.ensures
 
 pub returns : goal.returns
 unfolding if_span
 returns c =
-    let s = c in
-    span_eq (ap (λ (m : ℕ). s.args.i + 1 - m - 1) c.min.ensures) c.min-to.ensures
+    span_eq (ap (λ (m : ℕ). c.args.i + 1 - m - 1) c.min.ensures) c.min-to.ensures

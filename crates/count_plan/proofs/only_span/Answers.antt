@@ -7,5 +7,4 @@ use Rattle.count_plan.proofs.only_span.Goals as goal
 pub returns : goal.returns
 unfolding only_span
 returns c =
-    let s = c in
-    span_eq (ap (λ (m : ℕ). s.args.i - m) c.min.ensures) c.min-to.ensures
+    span_eq (ap (λ (m : ℕ). c.args.i - m) c.min.ensures) c.min-to.ensures

@@ -5,6 +5,5 @@ use Rattle.door.proofs.leaf.Goals as goal
 
 pub returns : goal.returns
 returns c =
-    let s = c in
     let e = c.leaf.ensures in
-    leaf_met _ s.args.x _ _ _ _ (to_z-of_z w32 s.args.x s.ranges.x) e.0 e.1 e.2
+    leaf_met _ c.args.x _ _ _ _ (to_z-of_z w32 c.args.x c.ranges.x) e.0 e.1 e.2

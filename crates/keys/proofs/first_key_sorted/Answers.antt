@@ -17,15 +17,13 @@ loop-i-init c =
     let j-most : c.back-j.result ≤ nr = omega (arith, c.back-j.ensures.within, vc) in
     let mid0 : (k : ℕ) → c.back-j.result ≤ k → k < nr → c.args.a ≤ 0 + R k = λ k h g. c.back-j.ensures.high k h (omega (arith, vc)) in
     let row0 : (b : ℕ) → picked_at nr (λ (k : ℕ). 0 + R k) c.args.a b c.back-j.result ≡ least_all nr (λ (k : ℕ). 0 + R k) c.args.a b = λ b. stair_row nr R mono-r 0 c.args.a nr c.back-j.result (omega arith) j-most mid0 c.back-j.ensures.low (λ k h g. absurd (omega arith)) b in
-    let b = c in
     let a = c.args in
-    let n = b in
-    let most = b.largest-most in
-    let h : n.con_len-n.result ≤ con_len a.l = omega (arith, n.con_len-n.ensures) in (
+    let most = c.largest-most in
+    let h : c.con_len-n.result ≤ con_len a.l = omega (arith, c.con_len-n.ensures) in (
       c.back-i.ensures.within,
       c.pick_at-b.ensures ∙ row0 none ∙ sum_least_none L nr R a.a
           ∙ skip_rows c.back-i.result L nr R a.a most.result (λ k l. omega (arith, last_most nr R mono-r k l, most.ensures.0))
-          (cut_below (con_len a.l) L mono-l most.result a.a n.con_len-n.result c.back-i.result h c.back-i.ensures),
+          (cut_below (con_len a.l) L mono-l most.result a.a c.con_len-n.result c.back-i.result h c.back-i.ensures),
       j-most,
       (λ p k h g q w. let m : a.a ≤ 0 + R k = mid0 k q w in omega arith),
     )
@@ -35,17 +33,13 @@ returns-then-b-a c =
     let L : ℕ → ℕ = λ k. con_val c.args.keys.now c.args.l c.args.lm k in
     let R : ℕ → ℕ = λ k. con_val c.args.keys.now c.args.r c.args.rm k in
     let nr : ℕ = con_len c.args.r in
-    let p = c in
-    let f = p in
-    let n = f in
-    let s = c in
-    let a = s.args in
-    let i = p.loop-i.i in
-    let q : (con_len a.l - i) + i ≡ con_len a.l = omega (arith, p.loop-i.invariant.0, n.con_len-n.ensures) in
+    let a = c.args in
+    let i = c.loop-i.i in
+    let q : (con_len a.l - i) + i ≡ con_len a.l = omega (arith, c.loop-i.invariant.0, c.con_len-n.ensures) in
     c.if-b-a.true
-    ∙ sym (sum_stays L nr R a.a i (sym p.loop-i.invariant.1 ∙ c.if-b-a.true) (con_len a.l - i))
+    ∙ sym (sum_stays L nr R a.a i (sym c.loop-i.invariant.1 ∙ c.if-b-a.true) (con_len a.l - i))
     ∙ ap (λ (k : ℕ). least_sum k L nr R a.a) q
-    ∙ node_least a.a a.keys.now a.l a.lm a.r a.rm (λ k. omega (arith, n.shared_slice_known-1.given k)) s.requires.lm_le_mul_limit.0 s.requires.lm_le_mul_limit.1
+    ∙ node_least a.a a.keys.now a.l a.lm a.r a.rm (λ k. omega (arith, c.shared_slice_known-1.given k)) c.requires.lm_le_mul_limit.0 c.requires.lm_le_mul_limit.1
 
 pub loop-i-preserved : goal.loop-i-preserved
 loop-i-preserved c =
@@ -64,14 +58,13 @@ loop-i-preserved c =
     let all2 : (k : ℕ) → c.back-j-in-loop-i.result ≤ k → k < nr2 → c.args.a ≤ X + R2 k = stair_high nr2 R2 mono-r X c.args.a c.loop-i.j c.back-j-in-loop-i.result c.loop-i.invariant.2 c.back-j-in-loop-i.ensures.within c.back-j-in-loop-i.ensures.high c.back-j-in-loop-i.ensures.low high2 in
     let row2 : (b : ℕ) → picked_at nr2 (λ (k : ℕ). X + R2 k) c.args.a b c.back-j-in-loop-i.result ≡ least_all nr2 (λ (k : ℕ). X + R2 k) c.args.a b = λ b. stair_row nr2 R2 mono-r X c.args.a c.loop-i.j c.back-j-in-loop-i.result c.loop-i.invariant.2 c.back-j-in-loop-i.ensures.within c.back-j-in-loop-i.ensures.high c.back-j-in-loop-i.ensures.low high2 b in
     let next2 : (i k : ℕ) → c.loop-i.i + 1 ≤ i → i < con_len c.args.l → c.back-j-in-loop-i.result ≤ k → k < nr2 → c.args.a ≤ L2 i + R2 k = λ i k h g p q. let m : L2 c.loop-i.i ≤ L2 i = mono-l c.loop-i.i i (omega arith) g in let w : c.args.a ≤ X + R2 k = all2 k p q in omega (arith, x-is) in
-    let b = c in
     let a = c.args in (
       omega (arith, c.loop-i-test.true),
       c.pick_at-b-in-loop-i.ensures ∙ row2 c.pick.result
           ∙ ap₂ (λ (x : ℕ) (y : ℕ). least_all (con_len a.r) (λ (k : ℕ). x + R2 k) a.a y) x-is
           (c.pick.ensures ∙ ap₂ (λ (x : ℕ) (y : ℕ). pick_of a.a x y) x-is c.loop-i.invariant.1)
           ∙ sum_least_more c.loop-i.i L2 (con_len a.r) R2 a.a,
-      omega (arith, c.loop-i.invariant.2, b.back-j-in-loop-i.ensures.within),
+      omega (arith, c.loop-i.invariant.2, c.back-j-in-loop-i.ensures.within),
       next2,
     )
 
@@ -79,11 +72,8 @@ pub returns : goal.returns
 returns c =
     let L : ℕ → ℕ = λ k. con_val c.args.keys.now c.args.l c.args.lm k in
     let R : ℕ → ℕ = λ k. con_val c.args.keys.now c.args.r c.args.rm k in
-    let f = c in
-    let v = f in
-    let s = v in
-    let a = s.args in
-    let q : c.loop-i.i ≡ con_len a.l = omega (arith, c.loop-i.invariant.0, c.loop-i-test.false, v.con_len-n.ensures) in
+    let a = c.args in
+    let q : c.loop-i.i ≡ con_len a.l = omega (arith, c.loop-i.invariant.0, c.loop-i-test.false, c.con_len-n.ensures) in
     c.loop-i.invariant.1
     ∙ ap (λ (n : ℕ). least_sum n L (con_len a.r) R a.a) q
-    ∙ node_least a.a a.keys.now a.l a.lm a.r a.rm (λ k. omega (arith, v.shared_slice_known-1.given k)) s.requires.lm_le_mul_limit.0 s.requires.lm_le_mul_limit.1
+    ∙ node_least a.a a.keys.now a.l a.lm a.r a.rm (λ k. omega (arith, c.shared_slice_known-1.given k)) c.requires.lm_le_mul_limit.0 c.requires.lm_le_mul_limit.1

@@ -21,19 +21,17 @@ overflow_add-a c =
     let S : List ℕ = node_keys c.args.keys.now c.args.l c.args.n.lmul c.args.r c.args.n.rmul in
     let btw : Between 0 none S = node_between c.args.keys.now c.args.l c.args.n.lmul c.args.r c.args.n.rmul (λ k. omega (arith, c.shared_slice_known-1.given k)) c.requires.0 c.requires.1 in
     let key : first_from c.loop-i.a S ≡ get_or S c.loop-i.i none = ap (λ (a : ℕ). first_from a S) c.loop-i.invariant.2 ∙ first_is_key S c.loop-i.i btw in
-    let lp = c in
-    omega (arith, key_most 0 S lp.loop-i.i btw, key, c.next_key-x.ensures)
+    omega (arith, key_most 0 S c.loop-i.i btw, key, c.next_key-x.ensures)
 
 pub loop-i-preserved : goal.loop-i-preserved
 loop-i-preserved c =
     let S : List ℕ = node_keys c.args.keys.now c.args.l c.args.n.lmul c.args.r c.args.n.rmul in
     let btw : Between 0 none S = node_between c.args.keys.now c.args.l c.args.n.lmul c.args.r c.args.n.rmul (λ k. omega (arith, c.shared_slice_known-1.given k)) c.requires.0 c.requires.1 in
     let key : first_from c.loop-i.a S ≡ get_or S c.loop-i.i none = ap (λ (a : ℕ). first_from a S) c.loop-i.invariant.2 ∙ first_is_key S c.loop-i.i btw in
-    let lp = c in
     let e = c.next_key-x.ensures ∙ key in (
       omega arith,
-      all_step _ _ _ _ lp.loop-i.invariant.1 (ap₂ (λ (k : ℕ) (x : ℕ). eqb k x && leb k key_limit) c.word_from-k.ensures.0 e),
-      ap (λ (v : ℕ). v + 1) e ∙ start_more S lp.loop-i.i,
+      all_step _ _ _ _ c.loop-i.invariant.1 (ap₂ (λ (k : ℕ) (x : ℕ). eqb k x && leb k key_limit) c.word_from-k.ensures.0 e),
+      ap (λ (v : ℕ). v + 1) e ∙ start_more S c.loop-i.i,
     )
 
 pub returns : goal.returns
@@ -41,10 +39,9 @@ returns c =
     let S : List ℕ = node_keys c.args.keys.now c.args.l c.args.n.lmul c.args.r c.args.n.rmul in
     let btw : Between 0 none S = node_between c.args.keys.now c.args.l c.args.n.lmul c.args.r c.args.n.rmul (λ k. omega (arith, c.shared_slice_known-1.given k)) c.requires.0 c.requires.1 in
     let key : first_from c.loop-i.a S ≡ get_or S c.loop-i.i none = ap (λ (a : ℕ). first_from a S) c.loop-i.invariant.2 ∙ first_is_key S c.loop-i.i btw in
-    let lp = c in
     let n = c.args.n in
-    let q : lp.loop-i.i ≡ n.count = omega arith in
+    let q : c.loop-i.i ≡ n.count = omega arith in
     ap₂ (λ (t : Bool) (x : ℕ). t && eqb x none)
-    (all_end _ _ _ _ lp.loop-i.invariant.1 lp.loop-i.invariant.0 c.loop-i-test.false)
+    (all_end _ _ _ _ c.loop-i.invariant.1 c.loop-i.invariant.0 c.loop-i-test.false)
     (c.next_key-past.ensures ∙ key ∙ ap (λ (k : ℕ). get_or S k none) q)
     ∙ row_test S (λ (k : ℕ). word_from c.args.keys.now n.first k) n.count btw

@@ -12,11 +12,10 @@ returns-then-n-eq0 c =
 
 pub returns : goal.returns
 returns c =
-    let s = c in
-    let a = s.args in
+    let a = c.args in
     let n = c.con_len-n in (
       ap (λ (v : ℕ). a.m * v) c.value_at.ensures.0
           ∙ ap (λ (i : ℕ). con_val a.keys.now a.r a.m (i - 1)) n.ensures
           ∙ last_some (con_len a.r) (con_val a.keys.now a.r a.m) (λ e. c.if-n-eq0.false (n.ensures ∙ e)),
-      prod_small a.m c.value_at.result s.requires c.value_at.ensures.1,
+      prod_small a.m c.value_at.result c.requires c.value_at.ensures.1,
     )

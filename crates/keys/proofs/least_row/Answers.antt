@@ -11,10 +11,9 @@ loop-j-init c = (omega arith, all_least_none _ _ _)
 
 pub loop-j-preserved : goal.loop-j-preserved
 loop-j-preserved c =
-    let lp = c in
-    let a = lp.args in (
+    let a = c.args in (
       omega arith,
       c.pick-b.ensures
-          ∙ ap₂ (λ (v : ℕ) (b : ℕ). pick_of a.a (a.l + a.m * v) b) c.value_at-v.ensures.0 lp.loop-j.invariant.1
-          ∙ all_least_more lp.loop-j.j (λ (k : ℕ). a.l + con_val a.keys.now a.r a.m k) a.a a.best,
+          ∙ ap₂ (λ (v : ℕ) (b : ℕ). pick_of a.a (a.l + a.m * v) b) c.value_at-v.ensures.0 c.loop-j.invariant.1
+          ∙ all_least_more c.loop-j.j (λ (k : ℕ). a.l + con_val a.keys.now a.r a.m k) a.a a.best,
     )

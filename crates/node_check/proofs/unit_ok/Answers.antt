@@ -11,9 +11,8 @@ pub returns-then-n-l : goal.returns-then-n-l
 unfolding unit_ok
 returns-then-n-l c =
     let a = c.args in
-    let s = c in
-    let q : s.sum_is-sum.result ≡ eqb a.n.count (con_len a.l + con_len a.r) =
-    s.sum_is-sum.ensures ∙ ap₂ (λ (x : ℕ) (y : ℕ). eqb a.n.count (x + y)) s.con_len.ensures s.con_len-2.ensures in
+    let q : c.sum_is-sum.result ≡ eqb a.n.count (con_len a.l + con_len a.r) =
+    c.sum_is-sum.ensures ∙ ap₂ (λ (x : ℕ) (y : ℕ). eqb a.n.count (x + y)) c.con_len.ensures c.con_len-2.ensures in
     let e = ap (λ (t : Bool). (((eqb a.n.lmul 1 && eqb a.n.rmul 1) && not (eqb a.l.kind 2)) && not (eqb a.r.kind 2)) && t) q in
     and_then _ _ _ (sym e ∙ c.if-n-l.true) c.keys_count.ensures
 
@@ -21,8 +20,7 @@ pub returns-else-n-l : goal.returns-else-n-l
 unfolding unit_ok
 returns-else-n-l c =
     let a = c.args in
-    let s = c in
-    let q : s.sum_is-sum.result ≡ eqb a.n.count (con_len a.l + con_len a.r) =
-    s.sum_is-sum.ensures ∙ ap₂ (λ (x : ℕ) (y : ℕ). eqb a.n.count (x + y)) s.con_len.ensures s.con_len-2.ensures in
+    let q : c.sum_is-sum.result ≡ eqb a.n.count (con_len a.l + con_len a.r) =
+    c.sum_is-sum.ensures ∙ ap₂ (λ (x : ℕ) (y : ℕ). eqb a.n.count (x + y)) c.con_len.ensures c.con_len-2.ensures in
     let e = ap (λ (t : Bool). (((eqb a.n.lmul 1 && eqb a.n.rmul 1) && not (eqb a.l.kind 2)) && not (eqb a.r.kind 2)) && t) q in
     and_else _ _ (sym e ∙ c.if-n-l.false)

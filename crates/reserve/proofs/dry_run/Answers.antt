@@ -5,13 +5,10 @@ use Rattle.reserve.proofs.dry_run.Goals as goal
 
 pub reserve_node-requires-clause-room : goal.reserve_node-requires-clause-room
 reserve_node-requires-clause-room c =
-    let s = c in
-    let cl = c.clear in
-    let cp = c.copy_lits in room_dry s.args.nodes.now s.args.count s.args.cells s.args.id _ s.requires.shape s.requires.id_lt_count.4 s.requires.id_lt_count.0
+    room_dry c.args.nodes.now c.args.count c.args.cells c.args.id _ c.requires.shape c.requires.id_lt_count.4 c.requires.id_lt_count.0
 
 pub returns : goal.returns
 returns c =
-    let s = c in
     let cp = c.copy_lits in
-    dry_count s.args.nodes.now s.args.count s.args.cells s.args.id s.args.lits.now cp.new.work _ _ s.requires.shape s.requires.id_lt_count.0 s.requires.id_lt_count.2 (omega (arith, cp.auto.work, s.requires.id_lt_count.3)) cp.ensures
-    (c.reserve_node.ensures.is (s.args.id + 1) (omega arith))
+    dry_count c.args.nodes.now c.args.count c.args.cells c.args.id c.args.lits.now cp.new.work _ _ c.requires.shape c.requires.id_lt_count.0 c.requires.id_lt_count.2 (omega (arith, cp.auto.work, c.requires.id_lt_count.3)) cp.ensures
+    (c.reserve_node.ensures.is (c.args.id + 1) (omega arith))

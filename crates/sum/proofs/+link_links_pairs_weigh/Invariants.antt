@@ -12,7 +12,7 @@ use Rattle.sum.specs.Ways.{pairs_of}
 use Prim.Native.Nat.{ℕ}
 use Rattle.sum.proofs.+link_links_pairs_weigh.Given as goal
 
-abbrev each : ℕ → List ℕ → List ℤ → List ℕ → ℕ → ℕ → ℕ → ℕ → St Row → St Row
+abbrev pub each : ℕ → List ℕ → List ℤ → List ℕ → ℕ → ℕ → ℕ → ℕ → St Row → St Row
 each f ns ins keys k at v j t = link_of lay (weigh lay f ns ins keys) ns ins k at (way_of ns keys k v j) t
 
 abbrev pub decreases-link : goal.decreases-link

@@ -8,6 +8,5 @@ use Rattle.table.proofs.counters_ok.Goals as goal
 pub returns : goal.returns
 unfolding counters_ok
 returns c =
-    let s = c in
-    let a = s.args in
-    ap (λ (r : Bool). ((((leb a.c.nodes node_limit && leb a.c.nodes a.holds) && r) && leb a.c.cells cell_limit) && leb a.c.cells a.keys) && leb a.c.words a.clauses) s.range_ok.ensures
+    let a = c.args in
+    ap (λ (r : Bool). ((((leb a.c.nodes node_limit && leb a.c.nodes a.holds) && r) && leb a.c.cells cell_limit) && leb a.c.cells a.keys) && leb a.c.words a.clauses) c.range_ok.ensures

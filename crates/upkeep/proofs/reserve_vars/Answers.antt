@@ -34,11 +34,9 @@ dry_run-d-requires-clause-id_lt_count c =
 pub dry_run-d-requires-clause-shape : goal.dry_run-d-requires-clause-shape
 dry_run-d-requires-clause-shape c =
     let checked : table_ok c.args.nodes.now c.args.inputs.now c.args.keys.now c.args.lits.now c.args.marks.now c.args.clauses c.args.c ≡ true = sym c.table_ok.ensures ∙ c.if-not-table_ok.false in
-    let worked : work_ok (length c.args.ints.now) (length c.args.bytes.now) c.args.c ≡ true = sym c.work_ok.ensures ∙ c.if-not-work_ok.false in
     let fits : Table c.args.nodes.now c.args.lits.now c.args.c = table_gives _ _ _ _ _ _ _ checked in
-    let area : Work (length c.args.ints.now) (length c.args.bytes.now) c.args.c = work_gives _ _ _ worked in
     let g = fits in
-    let k = area in g.shape
+    g.shape
 
 pub overflow_add-c : goal.overflow_add-c
 overflow_add-c c =
@@ -61,10 +59,9 @@ returns-then-c-from c =
     let checked : table_ok c.args.nodes.now c.args.inputs.now c.args.keys.now c.args.lits.now c.args.marks.now c.args.clauses c.args.c ≡ true = sym c.table_ok.ensures ∙ c.if-not-table_ok.false in
     let worked : work_ok (length c.args.ints.now) (length c.args.bytes.now) c.args.c ≡ true = sym c.work_ok.ensures ∙ c.if-not-work_ok.false in
     let fits : Table c.args.nodes.now c.args.lits.now c.args.c = table_gives _ _ _ _ _ _ _ checked in
-    let s = c in
     let g = fits in (
       reserve_no_vars _ _ _ _ _ checked worked (lt-ltb _ _ c.if-c-id.false)
-          (no_room s.args.nodes.now s.args.lits.now s.args.id s.args.c.next c.dry_run-d.result s.args.c.last g.some g.next_high c.if-c-from.true c.dry_run-d.ensures),
+          (no_room c.args.nodes.now c.args.lits.now c.args.id c.args.c.next c.dry_run-d.result c.args.c.last g.some g.next_high c.if-c-from.true c.dry_run-d.ensures),
       refl,
     )
 
@@ -80,8 +77,7 @@ reserve_node-next-requires-clause-id_lt_count c =
     let worked : work_ok (length c.args.ints.now) (length c.args.bytes.now) c.args.c ≡ true = sym c.work_ok.ensures ∙ c.if-not-work_ok.false in
     let fits : Table c.args.nodes.now c.args.lits.now c.args.c = table_gives _ _ _ _ _ _ _ checked in
     let area : Work (length c.args.ints.now) (length c.args.bytes.now) c.args.c = work_gives _ _ _ worked in
-    let enough : (reserved_by c.args.nodes.now c.args.lits.now c.args.id c.args.c.next).next ≤ c.args.c.last + 1 = let s = c in let g = fits in let d = c.dry_run-d in let h : d.result - 1 ≤ s.args.c.last + 1 - s.args.c.next = omega (arith, c.if-c-from.false) in room_real s.args.nodes.now s.args.lits.now s.args.id s.args.c.next d.result s.args.c.last g.some g.last_high g.next_high h d.ensures in
-    let s = c in
+    let enough : (reserved_by c.args.nodes.now c.args.lits.now c.args.id c.args.c.next).next ≤ c.args.c.last + 1 = let g = fits in let d = c.dry_run-d in let h : d.result - 1 ≤ c.args.c.last + 1 - c.args.c.next = omega (arith, c.if-c-from.false) in room_real c.args.nodes.now c.args.lits.now c.args.id c.args.c.next d.result c.args.c.last g.some g.last_high g.next_high h d.ensures in
     let g = fits in
     let k = area in
     let m = enough in (c.if-c-id.false, omega (arith, k.nodes, c.dry_run-d.auto.flags, c.clear.auto.row), g.some)
@@ -89,14 +85,9 @@ reserve_node-next-requires-clause-id_lt_count c =
 pub reserve_node-next-requires-clause-shape : goal.reserve_node-next-requires-clause-shape
 reserve_node-next-requires-clause-shape c =
     let checked : table_ok c.args.nodes.now c.args.inputs.now c.args.keys.now c.args.lits.now c.args.marks.now c.args.clauses c.args.c ≡ true = sym c.table_ok.ensures ∙ c.if-not-table_ok.false in
-    let worked : work_ok (length c.args.ints.now) (length c.args.bytes.now) c.args.c ≡ true = sym c.work_ok.ensures ∙ c.if-not-work_ok.false in
     let fits : Table c.args.nodes.now c.args.lits.now c.args.c = table_gives _ _ _ _ _ _ _ checked in
-    let area : Work (length c.args.ints.now) (length c.args.bytes.now) c.args.c = work_gives _ _ _ worked in
-    let enough : (reserved_by c.args.nodes.now c.args.lits.now c.args.id c.args.c.next).next ≤ c.args.c.last + 1 = let s = c in let g = fits in let d = c.dry_run-d in let h : d.result - 1 ≤ s.args.c.last + 1 - s.args.c.next = omega (arith, c.if-c-from.false) in room_real s.args.nodes.now s.args.lits.now s.args.id s.args.c.next d.result s.args.c.last g.some g.last_high g.next_high h d.ensures in
-    let s = c in
     let g = fits in
-    let k = area in
-    let m = enough in shape_more s.args.nodes.now s.args.c.nodes s.args.c.cells _ g.row g.shape
+    shape_more c.args.nodes.now c.args.c.nodes c.args.c.cells _ g.row g.shape
 
 pub reserve_node-next-requires-clause-room : goal.reserve_node-next-requires-clause-room
 reserve_node-next-requires-clause-room c =
@@ -104,11 +95,10 @@ reserve_node-next-requires-clause-room c =
     let worked : work_ok (length c.args.ints.now) (length c.args.bytes.now) c.args.c ≡ true = sym c.work_ok.ensures ∙ c.if-not-work_ok.false in
     let fits : Table c.args.nodes.now c.args.lits.now c.args.c = table_gives _ _ _ _ _ _ _ checked in
     let area : Work (length c.args.ints.now) (length c.args.bytes.now) c.args.c = work_gives _ _ _ worked in
-    let enough : (reserved_by c.args.nodes.now c.args.lits.now c.args.id c.args.c.next).next ≤ c.args.c.last + 1 = let s = c in let g = fits in let d = c.dry_run-d in let h : d.result - 1 ≤ s.args.c.last + 1 - s.args.c.next = omega (arith, c.if-c-from.false) in room_real s.args.nodes.now s.args.lits.now s.args.id s.args.c.next d.result s.args.c.last g.some g.last_high g.next_high h d.ensures in
-    let s = c in
+    let enough : (reserved_by c.args.nodes.now c.args.lits.now c.args.id c.args.c.next).next ≤ c.args.c.last + 1 = let g = fits in let d = c.dry_run-d in let h : d.result - 1 ≤ c.args.c.last + 1 - c.args.c.next = omega (arith, c.if-c-from.false) in room_real c.args.nodes.now c.args.lits.now c.args.id c.args.c.next d.result c.args.c.last g.some g.last_high g.next_high h d.ensures in
     let g = fits in
     let k = area in
-    let m = enough in record { fuel = s.args.id + 1; above = omega arith; low = omega (arith, m, g.last_high) }
+    let m = enough in record { fuel = c.args.id + 1; above = omega arith; low = omega (arith, m, g.last_high) }
 
 pub returns : goal.returns
 unfolding reserve_of
@@ -116,7 +106,6 @@ returns c =
     let checked : table_ok c.args.nodes.now c.args.inputs.now c.args.keys.now c.args.lits.now c.args.marks.now c.args.clauses c.args.c ≡ true = sym c.table_ok.ensures ∙ c.if-not-table_ok.false in
     let worked : work_ok (length c.args.ints.now) (length c.args.bytes.now) c.args.c ≡ true = sym c.work_ok.ensures ∙ c.if-not-work_ok.false in
     let fits : Table c.args.nodes.now c.args.lits.now c.args.c = table_gives _ _ _ _ _ _ _ checked in
-    let enough : (reserved_by c.args.nodes.now c.args.lits.now c.args.id c.args.c.next).next ≤ c.args.c.last + 1 = let s = c in let g = fits in let d = c.dry_run-d in let h : d.result - 1 ≤ s.args.c.last + 1 - s.args.c.next = omega (arith, c.if-c-from.false) in room_real s.args.nodes.now s.args.lits.now s.args.id s.args.c.next d.result s.args.c.last g.some g.last_high g.next_high h d.ensures in
-    let s = c in
-    let is = c.reserve_node-next.ensures.is (s.args.id + 1) (omega arith) in
-    (reserved _ _ _ s.args.c _ _ _ checked worked (lt-ltb _ _ c.if-c-id.false) enough is, ap (λ (u : Stock). u.lits) is)
+    let enough : (reserved_by c.args.nodes.now c.args.lits.now c.args.id c.args.c.next).next ≤ c.args.c.last + 1 = let g = fits in let d = c.dry_run-d in let h : d.result - 1 ≤ c.args.c.last + 1 - c.args.c.next = omega (arith, c.if-c-from.false) in room_real c.args.nodes.now c.args.lits.now c.args.id c.args.c.next d.result c.args.c.last g.some g.last_high g.next_high h d.ensures in
+    let is = c.reserve_node-next.ensures.is (c.args.id + 1) (omega arith) in
+    (reserved _ _ _ c.args.c _ _ _ checked worked (lt-ltb _ _ c.if-c-id.false) enough is, ap (λ (u : Stock). u.lits) is)

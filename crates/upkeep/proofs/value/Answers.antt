@@ -34,7 +34,7 @@ values-v-requires-clause-id_in_bounds c = let t = (sym c.table_ok.ensures ∙ c.
 pub values-v-requires-clause-sound : goal.values-v-requires-clause-sound
 values-v-requires-clause-sound c = let t = (sym c.table_ok.ensures ∙ c.if-not-table_ok.false) in
     let h = c.if-c-id.false in
-    let w = (work_gives _ _ _ (sym c.work_ok.ensures ∙ c.if-not-work_ok.false)).ids in sound _ _ _ _ _ _ _ t _ _ h
+    sound _ _ _ _ _ _ _ t _ _ h
 
 pub returns : goal.returns
 unfolding valued_of

@@ -12,25 +12,21 @@ use Rattle.worth.proofs.node_value.Goals as goal
 
 pub returns-then-k-eq0 : goal.returns-then-k-eq0
 returns-then-k-eq0 c =
-    let s = c in
-    let n = c in
-    let e = n.node_at-n.ensures in
-    let z = get_or s.args.inputs.now n.node_at-n.result.first (pos 0) in
-    c.truth.ensures ∙ ap (λ (x : ℤ). truth_of s.args.assign.now x) (to_z-of_z {w = w32} {z = z} (record { sfits = c.truth-arg-1.given }))
-    ∙ ap (λ (m : Node). truth_of s.args.assign.now (get_or s.args.inputs.now m.first (pos 0))) e
-    ∙ sym (worth_leaf (node_at s.args.nodes.now s.args.i) s.args.inputs.now s.args.assign.now _ _ (ap (λ (m : Node). m.kind) (sym e) ∙ c.if-k-eq0.true))
+    let e = c.node_at-n.ensures in
+    let z = get_or c.args.inputs.now c.node_at-n.result.first (pos 0) in
+    c.truth.ensures ∙ ap (λ (x : ℤ). truth_of c.args.assign.now x) (to_z-of_z {w = w32} {z = z} (record { sfits = c.truth-arg-1.given }))
+    ∙ ap (λ (m : Node). truth_of c.args.assign.now (get_or c.args.inputs.now m.first (pos 0))) e
+    ∙ sym (worth_leaf (node_at c.args.nodes.now c.args.i) c.args.inputs.now c.args.assign.now _ _ (ap (λ (m : Node). m.kind) (sym e) ∙ c.if-k-eq0.true))
 
 pub returns-then-k-eq3 : goal.returns-then-k-eq3
 returns-then-k-eq3 c =
-    let s = c in
     let e = c.node_at-n.ensures in
-    sym (worth_dummy (node_at s.args.nodes.now s.args.i) s.args.inputs.now s.args.assign.now _ _ (ap (λ (m : Node). m.kind) (sym e) ∙ c.if-k-eq3.true))
+    sym (worth_dummy (node_at c.args.nodes.now c.args.i) c.args.inputs.now c.args.assign.now _ _ (ap (λ (m : Node). m.kind) (sym e) ∙ c.if-k-eq3.true))
 
 pub returns : goal.returns
 returns c =
-    let s = c in
     let e = c.node_at-n.ensures in
-    let a = s.args in
+    let a = c.args in
     c.from_children.ensures
     ∙ ap (λ (m : Node). m.lmul * nat_abs (get_or a.work.now m.left (pos 0)) + m.rmul * nat_abs (get_or a.work.now m.right (pos 0))) e
     ∙ sym (worth_inner (node_at a.nodes.now a.i) a.inputs.now a.assign.now _ _
