@@ -6,8 +6,7 @@ usage: tools/respell.py [--list]      at the top of the repository; --list print
 Words are in snake case. A definition or lemma of specs/ or proofs/ (not of a function's own folder below proofs/, whose names
 follow the goals) that is in camel case or has hyphens gets underscores: litAt is lit_at, words-length is words_length. Fields
 and constructors too. Types and facts, which begin with a capital letter, stay. In src/ only clauses and ghost imports are
-read, so functions, types, strings and comments of the code keep their text; in must-fail/ the lines of an edit of specs/ or
-proofs/, and the clauses in others.
+read, so functions, types, strings and comments of the code keep their text. must-fail/ and the pages are not read.
 """
 
 import os
