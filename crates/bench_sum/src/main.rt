@@ -14,7 +14,7 @@ ghost use Rattle.std.specs.Prelude.{◌≤◌};
 ghost use Rattle.count.specs.Run.{Fit};
 ghost use Rattle.sum.specs.Ways.{Generals};
 
-use paper::{Added, Begun, Counters, Demanded, Pair, Run};
+use paper::{Added, Counters, Demanded, Pair, Refusal, Run};
 use rows::{con_len, node_at};
 use sum::weigh;
 use sums::define_weighted;
@@ -22,18 +22,18 @@ use table::table_ok;
 
 // ---- the table
 
-fn after(a: Added, c: Counters) -> Counters {
+fn after(a: Result<Added, Refusal>, c: Counters) -> Counters {
     match a {
-        Added::Done(_, now) => now,
-        Added::Refused(_) => c,
+        Ok(done) => done.counters,
+        Err(_) => c,
     }
 }
 
 fn start() -> Counters {
     let b = grow::fresh(2, 100000);
     match b {
-        Begun::Made(c) => c,
-        Begun::NotMade(_) => Counters {
+        Ok(c) => c,
+        Err(_) => Counters {
             first: 0,
             next: 0,
             last: 0,
@@ -185,8 +185,8 @@ fn call(
         nodes, inputs, keys, lits, marks, clauses, ints, bytes, c, id, v,
     );
     match r {
-        Demanded::Given(_, now) => now,
-        Demanded::NotGiven(_) => c,
+        Ok(done) => done.counters,
+        Err(_) => c,
     }
 }
 

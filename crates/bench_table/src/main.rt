@@ -8,20 +8,20 @@
 
 ghost use Rattle.std.specs.Prelude.{◌≤◌};
 
-use paper::{Added, Begun, Counters, Pair};
+use paper::{Added, Counters, Pair, Refusal};
 
-fn after(a: Added, c: Counters) -> Counters {
+fn after(a: Result<Added, Refusal>, c: Counters) -> Counters {
     match a {
-        Added::Done(_, now) => now,
-        Added::Refused(_) => c,
+        Ok(done) => done.counters,
+        Err(_) => c,
     }
 }
 
 fn start() -> Counters {
     let b = grow::fresh(2, 100);
     match b {
-        Begun::Made(c) => c,
-        Begun::NotMade(_) => Counters {
+        Ok(c) => c,
+        Err(_) => Counters {
             first: 0,
             next: 0,
             last: 0,

@@ -1,4 +1,6 @@
 -- The answer of the public call by the tests that lead there, and what the table check gives to the run.
+use Rattle.paper.specs.declared.Refusal.{Refusal}
+use Rattle.std.specs.Prelude.{Err, Result}
 use mathlib.Core.Path.{◌≡◌, sym, ◌∙◌, subst}
 use mathlib.Core.Bool.{Bool, true, false}
 use mathlib.Core.List.{List, ◌++◌}
@@ -16,7 +18,6 @@ use Rattle.paper.specs.declared.Want.{Want}
 use Rattle.paper.specs.declared.Counters.{Counters}
 use Rattle.paper.specs.declared.Refusal.TheVariants.{NoSuchOutput, TableFails, WorkShort, NoSuchNode, GeneralNode}
 use Rattle.paper.specs.declared.Demanded.{Demanded}
-use Rattle.paper.specs.declared.Demanded.TheVariants.{NotGiven}
 use Rattle.facts.specs.Facts.{TableFacts}
 use Rattle.facts.proofs.Facts.{table_facts, used_length, words_fit}
 use Rattle.count.specs.Run.{Fit, Here}
@@ -29,39 +30,39 @@ module _ (nodes : List ℕ) (inputs : List ℤ) (keys : List ℕ) (lits : List �
   abbrev Checked : Bool → Type 0
   Checked b = table_ok nodes inputs keys lits marks (length row) c ≡ b
 
-  abbrev answer : Want → Demanded
+  abbrev answer : Want → Result Demanded Refusal
   answer w = count_of nodes inputs keys lits marks (length row) ints bytes c id i w
 
   module _ (w : Want) where
-    pub no_table : Checked false → answer w ≡ NotGiven TableFails
+    pub no_table : Checked false → answer w ≡ Err TableFails
     unfolding count_of
     no_table a = is_2 _ _ _ _ _ _ a
 
-    pub no_work : Checked true → work_ok ints bytes c ≡ false → answer w ≡ NotGiven WorkShort
+    pub no_work : Checked true → work_ok ints bytes c ≡ false → answer w ≡ Err WorkShort
     unfolding count_of
     no_work a b = is_3 _ _ _ _ _ _ a b
 
-    pub no_node : Checked true → work_ok ints bytes c ≡ true → c.nodes ≤ id → answer w ≡ NotGiven NoSuchNode
+    pub no_node : Checked true → work_ok ints bytes c ≡ true → c.nodes ≤ id → answer w ≡ Err NoSuchNode
     unfolding count_of
     no_node a b h = is_4 _ _ _ _ _ _ a b (le-ltb id c.nodes h)
 
-    pub no_unit : Checked true → work_ok ints bytes c ≡ true → id < c.nodes → (node_at nodes id).kind ≡ 2 → answer w ≡ NotGiven GeneralNode
+    pub no_unit : Checked true → work_ok ints bytes c ≡ true → id < c.nodes → (node_at nodes id).kind ≡ 2 → answer w ≡ Err GeneralNode
     unfolding count_of
     no_unit a b h g = is_5 _ _ _ _ _ _ a b (lt-ltb id c.nodes h) (eq-eqb (node_at nodes id).kind 2 g)
 
-    pub no_output : Checked true → work_ok ints bytes c ≡ true → id < c.nodes → ((node_at nodes id).kind ≡ 2 → ⊥) → value_count (node_at nodes id) ≤ i → answer w ≡ NotGiven NoSuchOutput
+    pub no_output : Checked true → work_ok ints bytes c ≡ true → id < c.nodes → ((node_at nodes id).kind ≡ 2 → ⊥) → value_count (node_at nodes id) ≤ i → answer w ≡ Err NoSuchOutput
     unfolding count_of
     no_output a b h g o = is_1 _ _ _ _ _ _ a b (lt-ltb id c.nodes h) (ne_eqb (node_at nodes id).kind 2 g) (le-ltb i (value_count (node_at nodes id)) o)
 
     -- the run over the parts in use
-    abbrev Ran : Want → Demanded → List ℤ → List ℕ → List ℤ → Type 0
+    abbrev Ran : Want → Result Demanded Refusal → List ℤ → List ℕ → List ℤ → Type 0
     Ran u r l m k =
         Met (plain_run (nodes_used nodes c) (inputs_used inputs c) (cells_used lits c) (cells_used marks c) c.next id i u) c
         (lit_at (con_lits (nodes_used nodes c) (inputs_used inputs c) (plain_run (nodes_used nodes c) (inputs_used inputs c) (cells_used lits c) (cells_used marks c) c.next id i u).lits id) i)
         (cells_used lits c) (cells_used marks c) row r l m k
 
     pub answered : Checked true → work_ok ints bytes c ≡ true → id < c.nodes → ((node_at nodes id).kind ≡ 2 → ⊥) → i < value_count (node_at nodes id)
-        → (u : Want) → u ≡ w → (r : Demanded) (l : List ℤ) (m : List ℕ) (k : List ℤ) → Ran u r l m k
+        → (u : Want) → u ≡ w → (r : Result Demanded Refusal) (l : List ℤ) (m : List ℕ) (k : List ℤ) → Ran u r l m k
         → (r ≡ answer w) × (l ++ drop c.cells lits ≡ demanded_lits r (count_run nodes inputs lits marks c id i w) lits c)
         × (m ++ drop c.cells marks ≡ demanded_marks r (count_run nodes inputs lits marks c id i w) marks c) × (k ≡ demanded_clauses r (count_run nodes inputs lits marks c id i w) row c)
     unfolding count_of

@@ -45,7 +45,7 @@ fn run_twice(
     id: usize,
     i: usize,
     want: Want,
-) -> Demanded
+) -> Result<Demanded, Refusal>
     requires fit { Fit nodes.now inputs.now lits.old marks.old (run_of c) }
     requires here { Here nodes.now id i }
     requires ints_value { (ints.old ≡ lits.old) × (bytes.old ≡ marks.old) }
@@ -63,10 +63,10 @@ fn run_twice(
     let vars = dry.next - 1;
     let words = dry.words - len;
     if c.last + 1 < c.next + vars {
-        return Demanded::NotGiven(Refusal::VariablesOut);
+        return Err(Refusal::VariablesOut);
     }
     if len < c.words + words {
-        return Demanded::NotGiven(Refusal::ClausesShort);
+        return Err(Refusal::ClausesShort);
     }
     let run = Run {
         next: c.next,
@@ -83,7 +83,7 @@ fn run_twice(
         cells: c.cells,
         words: ran.words,
     };
-    Demanded::Given(lit, after)
+    Ok(Demanded { lit: lit, counters: after })
 }
 
 // The demand on the rows in use, with a working area that is long enough. No answer depends on what it held.
@@ -99,7 +99,7 @@ fn run_unweighted(
     id: usize,
     i: usize,
     want: Want,
-) -> Demanded
+) -> Result<Demanded, Refusal>
     requires fit { Fit nodes.now inputs.now lits.old marks.old (run_of c) }
     requires here { Here nodes.now id i }
     requires lits_in_bounds { (length lits.old ≤ length ints.old) × (length lits.old ≤ length bytes.old) }
@@ -140,27 +140,27 @@ pub fn define_unweighted(
     id: usize,
     i: usize,
     semantics: Semantics,
-) -> Demanded
+) -> Result<Demanded, Refusal>
     ensures value { result ≡ count_of nodes.now inputs.now keys.now lits.old marks.old (length clauses.old) (length ints.old) (length bytes.old) c id i (want_of semantics) }
     ensures lits_after { lits.new ≡ demanded_lits result (count_run nodes.now inputs.now lits.old marks.old c id i (want_of semantics)) lits.old c }
     ensures marks_after { marks.new ≡ demanded_marks result (count_run nodes.now inputs.now lits.old marks.old c id i (want_of semantics)) marks.old c }
     ensures clauses_after { clauses.new ≡ demanded_clauses result (count_run nodes.now inputs.now lits.old marks.old c id i (want_of semantics)) clauses.old c }
 {
     if !table_ok(nodes, inputs, keys, lits, marks, clauses.len(), c) {
-        return Demanded::NotGiven(Refusal::TableFails);
+        return Err(Refusal::TableFails);
     }
     if !work_ok(ints.len(), bytes.len(), c) {
-        return Demanded::NotGiven(Refusal::WorkShort);
+        return Err(Refusal::WorkShort);
     }
     if c.nodes <= id {
-        return Demanded::NotGiven(Refusal::NoSuchNode);
+        return Err(Refusal::NoSuchNode);
     }
     let n = node_at(nodes, id);
     if n.kind == 2 {
-        return Demanded::NotGiven(Refusal::GeneralNode);
+        return Err(Refusal::GeneralNode);
     }
     if value_count(n) <= i {
-        return Demanded::NotGiven(Refusal::NoSuchOutput);
+        return Err(Refusal::NoSuchOutput);
     }
     let want = want_of(semantics);
     let words = c.nodes * NODE_WORDS;

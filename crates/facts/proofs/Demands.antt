@@ -1,6 +1,7 @@
 -- A demand that is done: what its answer says, and that it leaves a table that passes. Assumes nothing.
+use Rattle.paper.specs.Answers.{gives}
 use Rattle.std.specs.Prelude.{ℕ, ◌+◌, ◌<◌, ◌≤◌, List, Bool, true, false, cond, ◌≡◌, refl, length, get_or, drop, leb, ltb, ℤ, pos}
-use Rattle.std.proofs.Common.{subst, ◌∙◌, arith, length-append, leb-true, ltb-true}
+use Rattle.std.proofs.Common.{ap, subst, ◌∙◌, arith, length-append, leb-true, ltb-true, Err, Ok, Result}
 use Rattle.std.proofs.Math.ListN.{get_or-append}
 use Rattle.paper.specs.Rows.{node_at, is_general, value_count, con_lits}
 use Rattle.paper.specs.Table.{table_ok, work_ok}
@@ -13,7 +14,6 @@ use Rattle.paper.specs.declared.Counters.{Counters}
 use Rattle.paper.specs.declared.Refusal.{Refusal}
 use Rattle.paper.specs.declared.Refusal.TheVariants.{NoSuchOutput, TableFails, WorkShort, NoSuchNode, GeneralNode, VariablesOut, ClausesShort}
 use Rattle.paper.specs.declared.Demanded.{Demanded}
-use Rattle.paper.specs.declared.Demanded.TheVariants.{Given, NotGiven}
 use Rattle.facts.specs.Facts.{TableFacts}
 use Rattle.facts.proofs.Facts.{table_facts, node_used, used_length}
 use Rattle.facts.proofs.Carry.{used_facts, general_mark, general_within}
@@ -26,10 +26,23 @@ use Rattle.facts.specs.Demands.{Roomy, Through}
 
 -- ---- the answer
 
-not_given : {G : Type 0} (z : ℤ) (c : Counters) (w : Refusal) → NotGiven w ≡ Given z c → G
+-- what two equal answers give back
+lit_of : Result Demanded Refusal → ℤ → ℤ
+lit_of (Ok a) z = a.lit
+lit_of (Err w) z = z
+
+counters_of : Result Demanded Refusal → Counters → Counters
+counters_of (Ok a) c = a.counters
+counters_of (Err w) c = c
+
+gives_same : (z z' : ℤ) (c c' : Counters) → gives z c ≡ gives z' c' → (z ≡ z') × (c ≡ c')
+unfolding lit_of counters_of
+gives_same z z' c c' q = (ap (λ (r : Result Demanded Refusal). lit_of r z) q, ap (λ (r : Result Demanded Refusal). counters_of r c) q)
+
+not_given : {G : Type 0} (z : ℤ) (c : Counters) (w : Refusal) → Err w ≡ gives z c → G
 not_given z c w q = absurd (let y : ◌≡◌ {A = ℕ} 0 1 = cc in omega arith)
 
-pub through : (table work here general output : Bool) (room : Demanded) (z : ℤ) (c : Counters) → demanded_of table work here general output room ≡ Given z c
+pub through : (table work here general output : Bool) (room : Result Demanded Refusal) (z : ℤ) (c : Counters) → demanded_of table work here general output room ≡ gives z c
     → Through table work here general output room z c
 unfolding demanded_of
 through false work here general output room z c q = not_given z c TableFails q
@@ -39,15 +52,15 @@ through true true true true output room z c q = not_given z c GeneralNode q
 through true true true false false room z c q = not_given z c NoSuchOutput q
 through true true true false true room z c q = record { table_passes = refl; work_passes = refl; here_ok = refl; not_general = refl; output_ok = refl; given = q }
 
-pub roomy : (p : St (List ℤ)) (c : Counters) (clauses : ℕ) (x z : ℤ) (c' : Counters) → room_of p c clauses x ≡ Given z c' → Roomy p c clauses x z c'
+pub roomy : (p : St (List ℤ)) (c : Counters) (clauses : ℕ) (x z : ℤ) (c' : Counters) → room_of p c clauses x ≡ gives z c' → Roomy p c clauses x z c'
 unfolding room_of
 roomy p c clauses x z c' h = go (leb p.next (c.last + 1)) refl (leb (c.words + length p.out) clauses) refl h
   where
     go : (a : Bool) → leb p.next (c.last + 1) ≡ a → (b : Bool) → leb (c.words + length p.out) clauses ≡ b
-        → cond a (cond b (Given x (ran_counters p c)) (NotGiven ClausesShort)) (NotGiven VariablesOut) ≡ Given z c' → Roomy p c clauses x z c'
+        → cond a (cond b (gives x (ran_counters p c)) (Err ClausesShort)) (Err VariablesOut) ≡ gives z c' → Roomy p c clauses x z c'
     go false ea b eb q = not_given z c' VariablesOut q
     go true ea false eb q = not_given z c' ClausesShort q
-    go true ea true eb q = record { vars = leb-true _ _ ea; words = leb-true _ _ eb; answer = cc; counters = cc }
+    go true ea true eb q = let s = gives_same _ _ _ _ q in record { vars = leb-true _ _ ea; words = leb-true _ _ eb; answer = s.0; counters = s.1 }
 
 -- ---- the rows afterwards
 
@@ -104,20 +117,20 @@ module _ (nodes : List ℕ) (inputs : List ℤ) (keys : List ℕ) (lits : List �
 
 module _ (nodes : List ℕ) (inputs : List ℤ) (keys : List ℕ) (lits : List ℤ) (marks : List ℕ) (clauses ints bytes : ℕ) (c : Counters) where
   -- what a done demand passed
-  pub count_done : (id i : ℕ) (w : Want) (z : ℤ) (c' : Counters) → count_of nodes inputs keys lits marks clauses ints bytes c id i w ≡ Given z c'
+  pub count_done : (id i : ℕ) (w : Want) (z : ℤ) (c' : Counters) → count_of nodes inputs keys lits marks clauses ints bytes c id i w ≡ gives z c'
       → Through (table_ok nodes inputs keys lits marks clauses c) (work_ok ints bytes c) (ltb id c.nodes) (is_general (node_at nodes id)) (ltb i (value_count (node_at nodes id)))
       (room_of (count_run nodes inputs lits marks c id i w) c clauses (lit_at (con_lits (nodes_used nodes c) (inputs_used inputs c) (count_run nodes inputs lits marks c id i w).lits id) i)) z c'
   unfolding count_of
   count_done id i w z c' h = through _ _ _ _ _ _ z c' h
 
-  pub sum_done : (id v : ℕ) (z : ℤ) (c' : Counters) → sum_of nodes inputs keys lits marks clauses ints bytes c id v ≡ Given z c'
+  pub sum_done : (id v : ℕ) (z : ℤ) (c' : Counters) → sum_of nodes inputs keys lits marks clauses ints bytes c id v ≡ gives z c'
       → Through (table_ok nodes inputs keys lits marks clauses c) (work_ok ints bytes c) (ltb id c.nodes) false (is_at (sum_place nodes keys c id v))
       (room_of (sum_run nodes inputs keys lits marks c id v) c clauses
       (lit_at (con_lits (nodes_used nodes c) (inputs_used inputs c) (sum_run nodes inputs keys lits marks c id v).lits id) (index_of (sum_place nodes keys c id v)))) z c'
   unfolding sum_of
   sum_done id v z c' h = through _ _ _ _ _ _ z c' h
 
-  pub count_keeps : (id i : ℕ) (w : Want) (z : ℤ) (c' : Counters) → count_of nodes inputs keys lits marks clauses ints bytes c id i w ≡ Given z c'
+  pub count_keeps : (id i : ℕ) (w : Want) (z : ℤ) (c' : Counters) → count_of nodes inputs keys lits marks clauses ints bytes c id i w ≡ gives z c'
       → table_ok nodes inputs keys (cells_back (count_run nodes inputs lits marks c id i w).lits lits c) (cells_back (count_run nodes inputs lits marks c id i w).marks marks c) clauses c' ≡ true
   count_keeps id i w z c' h =
       let p = count_run nodes inputs lits marks c id i w in
@@ -127,7 +140,7 @@ module _ (nodes : List ℕ) (inputs : List ℤ) (keys : List ℕ) (lits : List �
       (demand_keeps nodes inputs keys lits marks clauses c t.table_passes (id + 1) p
       (count_ran nodes inputs keys lits marks clauses c t.table_passes id i w (ltb-true _ _ t.here_ok) (ltb-true _ _ t.output_ok)) r.vars r.words)
 
-  pub sum_keeps : (id v : ℕ) (z : ℤ) (c' : Counters) → sum_of nodes inputs keys lits marks clauses ints bytes c id v ≡ Given z c'
+  pub sum_keeps : (id v : ℕ) (z : ℤ) (c' : Counters) → sum_of nodes inputs keys lits marks clauses ints bytes c id v ≡ gives z c'
       → table_ok nodes inputs keys (cells_back (sum_run nodes inputs keys lits marks c id v).lits lits c) (cells_back (sum_run nodes inputs keys lits marks c id v).marks marks c) clauses c' ≡ true
   sum_keeps id v z c' h =
       let p = sum_run nodes inputs keys lits marks c id v in

@@ -1,7 +1,8 @@
 -- A demand that says 0, as one statement over the whole database; and the same demand once more, which changes nothing. Assumes nothing.
+use Rattle.paper.specs.Answers.{gives}
 use Rattle.std.specs.Prelude.{ℕ, suc, ◌+◌, ◌-◌, ◌<◌, ◌≤◌, List, ◌++◌, true, false, refl, length, take, drop, ltb, ℤ, pos}
 use Rattle.std.proofs.Math.Path.{◌≡◌, ap, subst}
-use Rattle.std.proofs.Common.{sym, ◌∙◌, ⊎_elim, add-one, length-append, length-take-le, drop_at, ltb-true, ne_eqb}
+use Rattle.std.proofs.Common.{sym, ◌∙◌, ⊎_elim, add-one, length-append, length-take-le, drop_at, ltb-true, ne_eqb, Err, None, Option, Result, Some, Ok}
 use native.Mathlib.Omega.{arith}
 use Rattle.std.proofs.Math.ListN.{get_or, get_or-append, get_or-eq_default}
 use Rattle.std.proofs.lemmas.List.Edits.{sets, sets-eq}
@@ -15,13 +16,10 @@ use Rattle.paper.specs.Numbers.{number_of, demanded_said}
 use Rattle.paper.specs.Calls.{Db, Work, After, unweighted_call, weighted_call}
 use Rattle.paper.specs.declared.Node.{Node}
 use Rattle.paper.specs.declared.Semantics.{Semantics}
-use Rattle.paper.specs.declared.Found.{Found}
-use Rattle.paper.specs.declared.Found.TheVariants.{At, Absent}
 use Rattle.paper.specs.declared.Counters.{Counters}
 use Rattle.paper.specs.declared.Refusal.{Refusal}
 use Rattle.paper.specs.declared.Refusal.TheVariants.{NoSuchOutput, TableFails, WorkShort, NoSuchNode, GeneralNode, BadLiteral, BadMultiplier, NoValue, KeyTooLarge, TooDeep, NoRoom, VariablesOut, ClausesShort, BadAssignment, BadVariables}
 use Rattle.paper.specs.declared.Demanded.{Demanded}
-use Rattle.paper.specs.declared.Demanded.TheVariants.{Given, NotGiven}
 use Rattle.facts.proofs.Facts.{table_facts, unit_outputs, general_outputs, node_used, used_length, used_at}
 use Rattle.facts.specs.Taken.{cell_lit}
 use Rattle.facts.proofs.Taken.{order_size, order_taken}
@@ -55,9 +53,9 @@ number_some BadAssignment = omega arith
 number_some BadVariables = omega arith
 
 -- a demand that says 0 is given
-pub said_given : (r : Demanded) (c : Counters) → (demanded_said r c).number ≡ 0 → GivenBack r
-said_given (Given z c') c h = record { literal = z; counters = c'; is = refl }
-said_given (NotGiven w) c h = absurd (omega (arith, number_some w))
+pub said_given : (r : Result Demanded Refusal) (c : Counters) → (demanded_said r c).number ≡ 0 → GivenBack r
+said_given (Ok a) c h = record { literal = a.lit; counters = a.counters; is = refl }
+said_given (Err w) c h = absurd (omega (arith, number_some w))
 
 past_words : (l : List ℤ) (i : ℕ) (vs : List ℤ) → i + length vs ≤ length l → drop (i + length vs) (sets l i vs) ≡ drop (i + length vs) l
 past_words l i vs h =
@@ -65,7 +63,7 @@ past_words l i vs h =
     ∙ drop_at (take i l ++ vs) (drop (i + length vs) l) (i + length vs) (length-append (take i l) vs ∙ ap (λ (k : ℕ). k + length vs) (length-take-le i l (omega arith)))
 
 -- the answer r of the run p over d
-abbrev after_demand : Db → Demanded → St (List ℤ) → After
+abbrev after_demand : Db → Result Demanded Refusal → St (List ℤ) → After
 after_demand d r p =
     record {
       said = demanded_said r d.counters;
@@ -80,18 +78,18 @@ after_demand d r p =
       };
     }
 
-done_law : (d : Db) (id b : ℕ) (r : Demanded) (p : St (List ℤ)) (z : ℤ) (c' : Counters) (ok : table_ok d.nodes d.inputs d.keys d.lits d.marks (length d.clauses) d.counters ≡ true)
-    → r ≡ Given z c' → is_zero z ≡ false → ran_counters p d.counters ≡ c' → d.counters.words + length p.out ≤ length d.clauses
+done_law : (d : Db) (id b : ℕ) (r : Result Demanded Refusal) (p : St (List ℤ)) (z : ℤ) (c' : Counters) (ok : table_ok d.nodes d.inputs d.keys d.lits d.marks (length d.clauses) d.counters ≡ true)
+    → r ≡ gives z c' → is_zero z ≡ false → ran_counters p d.counters ≡ c' → d.counters.words + length p.out ≤ length d.clauses
     → Ran (nodes_used d.nodes d.counters) d.counters.nodes b (cells_used d.lits d.counters) (cells_used d.marks d.counters) d.counters.next p.lits p.marks p.next
     → Ran (nodes_used d.nodes d.counters) d.counters.nodes (id + 1) d.lits d.marks d.counters.next (cells_back p.lits d.lits d.counters) (cells_back p.marks d.marks d.counters) c'.next
     → DemandDone d id (after_demand d r p)
-done_law d id b r p z c' ok e some ec room part run = subst (λ (x : Demanded). DemandDone d id (after_demand d x p)) (sym e) (subst (λ (x : Counters). DemandDone d id (after_demand d (Given z x) p)) ec (given (subst (λ (x : Counters). Ran (nodes_used d.nodes c) c.nodes (id + 1) d.lits d.marks c.next (cells_back p.lits d.lits c) (cells_back p.marks d.marks c) x.next) (sym ec) run)))
+done_law d id b r p z c' ok e some ec room part run = subst (λ (x : Result Demanded Refusal). DemandDone d id (after_demand d x p)) (sym e) (subst (λ (x : Counters). DemandDone d id (after_demand d (gives z x) p)) ec (given (subst (λ (x : Counters). Ran (nodes_used d.nodes c) c.nodes (id + 1) d.lits d.marks c.next (cells_back p.lits d.lits c) (cells_back p.marks d.marks c) x.next) (sym ec) run)))
   where
     c : Counters
     c = d.counters
 
     given : Ran (nodes_used d.nodes d.counters) d.counters.nodes (id + 1) d.lits d.marks d.counters.next (cells_back p.lits d.lits d.counters) (cells_back p.marks d.marks d.counters) p.next
-        → DemandDone d id (after_demand d (Given z (ran_counters p d.counters)) p)
+        → DemandDone d id (after_demand d (gives z (ran_counters p d.counters)) p)
     given q =
         let t = table_facts (node_at d.nodes) _ d.inputs d.keys d.lits d.marks (length d.clauses) c ok in
         record {
@@ -170,8 +168,8 @@ unweighted_last d w id i m h k none =
     let last = count_last d.nodes d.inputs d.keys d.lits d.marks (length d.clauses) c t.table_passes id i (want_of m) here (ap (λ (x : Node). x.kind) e ∙ k) (rw (e) out) (want_asks m)
     (ap (λ (x : Node). cell_lit (cells_used d.lits c) (x.first + i)) e ∙ used_at c.cells d.lits ((node_at d.nodes id).first + i) (pos 0) low ∙ none) in (
       last.0,
-      ap (λ (x : Demanded). (demanded_said x c).value) g.is ∙ sym q.answer ∙ last.1,
-      ap (λ (x : Demanded). (demanded_said x c).counters.next) g.is ∙ ap (λ (x : Counters). x.next) (sym q.counters) ∙ last.2,
+      ap (λ (x : Result Demanded Refusal). (demanded_said x c).value) g.is ∙ sym q.answer ∙ last.1,
+      ap (λ (x : Result Demanded Refusal). (demanded_said x c).counters.next) g.is ∙ ap (λ (x : Counters). x.next) (sym q.counters) ∙ last.2,
     )
 
 -- .. and so for every unit's output that it gives a literal: what its demand asks of units below has a literal by then, and a smaller one if it is new
@@ -192,7 +190,7 @@ unweighted_children d w id i m h =
     let ran = count_ran d.nodes d.inputs d.keys d.lits d.marks (length d.clauses) c t.table_passes id i (want_of m) here out in
     let first = define_first grow N (inputs_used d.inputs c) c.nodes c.cells lay (id + 1) id i (want_of m) (start (cells_used d.lits c) (cells_used d.marks c) c.next) (omega arith) here
     (rw (node_used d.nodes c.nodes id here) out) (used_fit d.nodes d.inputs d.keys d.lits d.marks (length d.clauses) c t.table_passes) in
-    subst (λ (x : Demanded). ChildrenFirst N c.nodes (want_of m) d.lits (demanded_lits x p d.lits c)) (sym g.is)
+    subst (λ (x : Result Demanded Refusal). ChildrenFirst N c.nodes (want_of m) d.lits (demanded_lits x p d.lits c)) (sym g.is)
     (first_back N c.nodes c.cells d.lits p.lits lay (order_size ran.order ∙ used_length c.cells d.lits f.lit_row) first)
 
 -- "before the children": where a general node's output had no literal, the answer is the first one taken
@@ -206,7 +204,7 @@ weighted_first d w id v h k none =
     let g = said_given r c h in
     let t = sum_done d.nodes d.inputs d.keys d.lits d.marks (length d.clauses) w.ints w.bytes c id v g.literal g.counters g.is in
     let q = roomy p c (length d.clauses) (lit_at (con_lits N I p.lits id) (index_of o)) g.literal g.counters t.given in
-    ap (λ (x : Demanded). (demanded_said x c).value) g.is ∙ sym q.answer
+    ap (λ (x : Result Demanded Refusal). (demanded_said x c).value) g.is ∙ sym q.answer
     ∙ go t.table_passes (ltb-true _ _ t.here_ok) o (output_place (cells_used d.keys c) (node_at d.nodes id) v) t.output_ok none
   where
     c : Counters
@@ -218,14 +216,14 @@ weighted_first d w id v h k none =
     I : List ℤ
     I = inputs_used d.inputs c
 
-    o : Found
+    o : Option ℕ
     o = sum_place d.nodes d.keys c id v
 
     go : table_ok d.nodes d.inputs d.keys d.lits d.marks (length d.clauses) c ≡ true → id < c.nodes
-        → (a : Found) → place_of a ≤ value_count (node_at d.nodes id) → is_at a ≡ true → cell_lit d.lits ((node_at d.nodes id).first + index_of a) ≡ pos 0
+        → (a : Option ℕ) → place_of a ≤ value_count (node_at d.nodes id) → is_at a ≡ true → cell_lit d.lits ((node_at d.nodes id).first + index_of a) ≡ pos 0
         → lit_at (con_lits N I (weigh_run N I (cells_used d.keys c) (cells_used d.lits c) (cells_used d.marks c) c.next id (place_of a)).lits id) (index_of a) ≡ pos c.next
-    go ok here Absent low q z = absurd (let y : ◌≡◌ {A = ℕ} 0 1 = cc in omega arith)
-    go ok here (At j) low q z =
+    go ok here None low q z = absurd (let y : ◌≡◌ {A = ℕ} 0 1 = cc in omega arith)
+    go ok here (Some j) low q z =
         let e : node_at N id ≡ node_at d.nodes id = node_used d.nodes c.nodes id here in
         let out : j < value_count (node_at d.nodes id) = omega arith in
         let cell = cell_in d.nodes d.inputs d.keys d.lits d.marks (length d.clauses) c ok id j here out (ne_eqb (node_at d.nodes id).kind 0 (λ x. omega arith)) in
@@ -246,7 +244,7 @@ unweighted_twice d w u id i m h = unweighted_met (unweighted_call d w id i m).db
     c : Counters
     c = d.counters
 
-    r : Demanded
+    r : Result Demanded Refusal
     r = count_of d.nodes d.inputs d.keys d.lits d.marks (length d.clauses) w.ints w.bytes c id i (want_of m)
 
     p : St (List ℤ)
@@ -269,7 +267,7 @@ unweighted_twice d w u id i m h = unweighted_met (unweighted_call d w id i m).db
         let q1 : Met (get_or p.marks ((node_at N id).first + i) 0) (want_of m) = subst (λ (x : ℕ). Met (get_or (define grow x N (inputs_used d.inputs c) id i (want_of m) (start (cells_used d.lits c) (cells_used d.marks c) c.next)).marks ((node_at N id).first + i) 0) (want_of m)) (sym (add-one id)) q in
         let q2 : Met (get_or p.marks ((node_at d.nodes id).first + i) 0) (want_of m) = subst (λ (x : Node). Met (get_or p.marks (x.first + i) 0) (want_of m)) e q1 in
         let low = cell_in d.nodes d.inputs d.keys d.lits d.marks (length d.clauses) c t.table_passes id i here out (ne_eqb (node_at d.nodes id).kind 0 (λ x. omega arith)) in
-        subst (λ (x : Demanded). Met (get_or (demanded_marks x p d.marks c) ((node_at d.nodes id).first + i) 0) (want_of m)) (sym g.is)
+        subst (λ (x : Result Demanded Refusal). Met (get_or (demanded_marks x p d.marks c) ((node_at d.nodes id).first + i) 0) (want_of m)) (sym g.is)
         (subst (λ (x : ℕ). Met x (want_of m)) (sym (back_mark d p ((node_at d.nodes id).first + i) (ran.size ∙ used_length c.cells d.marks f.mark_row) low)) q2)
 
 -- the place o of a node of the table, after its run: a unit's output has If, a general node's is marked
@@ -284,17 +282,17 @@ module _ (nodes : List ℕ) (inputs : List ℤ) (keys : List ℕ) (lits : List �
   abbrev B : St (List ℤ)
   B = start (cells_used lits c) (cells_used marks c) c.next
 
-  abbrev at_place : Found → St (List ℤ)
+  abbrev at_place : Option ℕ → St (List ℤ)
   at_place o = weigh_run N I (cells_used keys c) (cells_used lits c) (cells_used marks c) c.next id (place_of o)
 
   node_is : node_at N id ≡ node_at nodes id
   node_is = node_used nodes c.nodes id here
 
-  unit_place_met : (o : Found) → place_of o ≤ value_count (node_at nodes id) → is_at o ≡ true → (node_at nodes id).kind ≡ 1
+  unit_place_met : (o : Option ℕ) → place_of o ≤ value_count (node_at nodes id) → is_at o ≡ true → (node_at nodes id).kind ≡ 1
       → Met (get_or (at_place o).marks ((node_at nodes id).first + index_of o) 0) just_if
   unfolding weigh_run
-  unit_place_met Absent low q k = absurd (let y : ◌≡◌ {A = ℕ} 0 1 = cc in omega arith)
-  unit_place_met (At j) low q k =
+  unit_place_met None low q k = absurd (let y : ◌≡◌ {A = ℕ} 0 1 = cc in omega arith)
+  unit_place_met (Some j) low q k =
       let e : j + 1 - 1 ≡ j = omega arith in
       let kind : (node_at N id).kind ≡ 1 = ap (λ (x : Node). x.kind) node_is ∙ k in
       let cell : CellOf 1 N c.nodes id (j + 1 - 1) = record { below = here; is = kind; out = omega (arith, ap (λ (x : Node). x.count) node_is, unit_outputs (node_at nodes id) k) } in
@@ -304,11 +302,11 @@ module _ (nodes : List ℕ) (inputs : List ℤ) (keys : List ℕ) (lits : List �
       let g = subst (λ (x : Node). Met (get_or (weigh grow (suc id) N I (cells_used keys c) id (j + 1) B).marks (x.first + j) 0) just_if) node_is f in
       subst (λ (x : ℕ). Met (get_or (weigh grow x N I (cells_used keys c) id (j + 1) B).marks ((node_at nodes id).first + j) 0) just_if) (sym (add-one id)) g
 
-  general_place_marked : (o : Found) → place_of o ≤ value_count (node_at nodes id) → is_at o ≡ true → (node_at nodes id).kind ≡ 2
+  general_place_marked : (o : Option ℕ) → place_of o ≤ value_count (node_at nodes id) → is_at o ≡ true → (node_at nodes id).kind ≡ 2
       → get_or (at_place o).marks ((node_at nodes id).first + index_of o) 0 ≡ 0 → ⊥
   unfolding weigh_run
-  general_place_marked Absent low q k = absurd (let y : ◌≡◌ {A = ℕ} 0 1 = cc in omega arith)
-  general_place_marked (At j) low q k =
+  general_place_marked None low q k = absurd (let y : ◌≡◌ {A = ℕ} 0 1 = cc in omega arith)
+  general_place_marked (Some j) low q k =
       let e : j + 1 - 1 ≡ j = omega arith in
       let kind : (node_at N id).kind ≡ 2 = ap (λ (x : Node). x.kind) node_is ∙ k in
       let cell : CellOf 2 N c.nodes id (j + 1 - 1) = record { below = here; is = kind; out = omega (arith, ap (λ (x : Node). x.count) node_is, general_outputs (node_at nodes id) k) } in
@@ -317,9 +315,9 @@ module _ (nodes : List ℕ) (inputs : List ℤ) (keys : List ℕ) (lits : List �
       let g = subst (λ (x : Node). get_or (weigh grow (suc id) N I (cells_used keys c) id (j + 1) B).marks (x.first + j) 0 ≡ 0 → ⊥) node_is f in
       subst (λ (x : ℕ). get_or (weigh grow x N I (cells_used keys c) id (j + 1) B).marks ((node_at nodes id).first + j) 0 ≡ 0 → ⊥) (sym (add-one id)) g
 
-  place_low : (o : Found) → place_of o ≤ value_count (node_at nodes id) → is_at o ≡ true → index_of o < value_count (node_at nodes id)
-  place_low Absent low q = absurd (let y : ◌≡◌ {A = ℕ} 0 1 = cc in omega arith)
-  place_low (At j) low q = omega arith
+  place_low : (o : Option ℕ) → place_of o ≤ value_count (node_at nodes id) → is_at o ≡ true → index_of o < value_count (node_at nodes id)
+  place_low None low q = absurd (let y : ◌≡◌ {A = ℕ} 0 1 = cc in omega arith)
+  place_low (Some j) low q = omega arith
 
 pub weighted_twice : (d : Db) (w u : Work) (id v : ℕ) → (weighted_call d w id v).said.number ≡ 0
     → (weighted_call (weighted_call d w id v).db u id v).db ≡ (weighted_call d w id v).db
@@ -329,13 +327,13 @@ weighted_twice d w u id v h = weighted_met (weighted_call d w id v).db u id v (m
     c : Counters
     c = d.counters
 
-    r : Demanded
+    r : Result Demanded Refusal
     r = sum_of d.nodes d.inputs d.keys d.lits d.marks (length d.clauses) w.ints w.bytes c id v
 
     p : St (List ℤ)
     p = sum_run d.nodes d.inputs d.keys d.lits d.marks c id v
 
-    o : Found
+    o : Option ℕ
     o = sum_place d.nodes d.keys c id v
 
     n : Node
@@ -357,7 +355,7 @@ weighted_twice d w u id v h = weighted_met (weighted_call d w id v).db u id v (m
     cells : (demanded_said r c).counters.cells ≡ c.cells
     cells =
         let q = roomy p c (length d.clauses) (lit_at (con_lits (nodes_used d.nodes c) (inputs_used d.inputs c) p.lits id) (index_of o)) g.literal g.counters t.given in
-        ap (λ (x : Demanded). (demanded_said x c).counters.cells) g.is ∙ ap (λ (x : Counters). x.cells) (sym q.counters)
+        ap (λ (x : Result Demanded Refusal). (demanded_said x c).counters.cells) g.is ∙ ap (λ (x : Counters). x.cells) (sym q.counters)
 
     moves : (kind : ℕ) (P : ℕ → Type 0) → (kind ≡ 0 → ⊥) → (n.kind ≡ kind → P (get_or p.marks (n.first + index_of o) 0)) → n.kind ≡ kind
         → P (get_or (demanded_marks r p d.marks c) (n.first + index_of (sum_place d.nodes d.keys (demanded_said r c).counters id v)) 0)
@@ -369,5 +367,5 @@ weighted_twice d w u id v h = weighted_met (weighted_call d w id v).db u id v (m
         let ran = sum_ran d.nodes d.inputs d.keys d.lits d.marks (length d.clauses) c t.table_passes id v here in
         let facts = table_facts (node_at d.nodes) _ d.inputs d.keys d.lits d.marks (length d.clauses) c t.table_passes in
         let back = subst P (sym (back_mark d p (n.first + index_of o) (ran.size ∙ used_length c.cells d.marks facts.mark_row) low)) (f k) in
-        let said = subst (λ (x : Demanded). P (get_or (demanded_marks x p d.marks c) (n.first + index_of o) 0)) (sym g.is) back in
+        let said = subst (λ (x : Result Demanded Refusal). P (get_or (demanded_marks x p d.marks c) (n.first + index_of o) 0)) (sym g.is) back in
         subst (λ (m : ℕ). P (get_or (demanded_marks r p d.marks c) (n.first + index_of (output_of (take m d.keys) n v)) 0)) (sym cells) said

@@ -1,6 +1,6 @@
 -- fresh, leaf, dummy and inner leave a table that passes. Assumes nothing.
 use Rattle.std.specs.Prelude.{ℕ, ◌+◌, ◌-◌, ◌*◌, ◌/◌, ◌<◌, ◌≤◌, max, List, Bool, true, false, cond, ◌&&◌, ◌≡◌, refl, length, get_or, set, replicate, leb, ℤ, pos}
-use Rattle.std.proofs.Common.{sym, ap, subst, ◌∙◌, inl, ⊎_elim, add-zero, arith, length-set, get_or-set_other, get_or-set_same, leb-true}
+use Rattle.std.proofs.Common.{sym, ap, subst, ◌∙◌, inl, ⊎_elim, add-zero, arith, length-set, get_or-set_other, get_or-set_same, leb-true, Err, None, Ok}
 use Rattle.std.proofs.lemmas.List.{length-replicate, get_or-replicate}
 use Rattle.std.proofs.Math.Seq.{paste}
 use Rattle.std.proofs.lemmas.List.Edits.{length-paste}
@@ -13,12 +13,9 @@ use Rattle.paper.specs.Grow.{begun, fresh_of, put_node, leaf_node, dummy_node, l
 use Rattle.paper.specs.Join.{count_up, inner_node, inner_plan, new_keys}
 use Rattle.paper.specs.declared.Node.{Node}
 use Rattle.paper.specs.declared.Counters.{Counters}
-use Rattle.paper.specs.declared.Begun.TheVariants.{Made, NotMade}
 use Rattle.paper.specs.declared.Refusal.TheVariants.{BadVariables}
-use Rattle.paper.specs.declared.Choice.TheVariants.{New}
 use Rattle.paper.specs.declared.Pair.{Pair}
 use Rattle.paper.specs.declared.Sizes.{Sizes}
-use Rattle.paper.specs.declared.Planned.TheVariants.{Make}
 use Rattle.facts.specs.Facts.{LitFacts, CellFacts, NodeFacts, a_leaf, a_dummy, a_unit, a_general, TableFacts}
 use Rattle.facts.proofs.Facts.{lit_facts, table_facts, table_made, node_under}
 use Rattle.facts.proofs.Members.{node_same}
@@ -62,11 +59,11 @@ fresh_table nodes inputs keys lits marks clauses first last h =
 
 -- a fresh call that is done begins a table that passes
 pub fresh_passes : (nodes : List ℕ) (inputs : List ℤ) (keys : List ℕ) (lits : List ℤ) (marks : List ℕ) (clauses first last : ℕ) (c : Counters)
-    → fresh_of first last ≡ Made c → table_ok nodes inputs keys lits marks clauses c ≡ true
+    → fresh_of first last ≡ Ok c → table_ok nodes inputs keys lits marks clauses c ≡ true
 unfolding fresh_of
 fresh_passes nodes inputs keys lits marks clauses first last c h = go (range_ok first first last) refl h
   where
-    go : (b : Bool) → range_ok first first last ≡ b → cond b (Made (begun first last)) (NotMade BadVariables) ≡ Made c → table_ok nodes inputs keys lits marks clauses c ≡ true
+    go : (b : Bool) → range_ok first first last ≡ b → cond b (Ok (begun first last)) (Err BadVariables) ≡ Ok c → table_ok nodes inputs keys lits marks clauses c ≡ true
     go true e q = let p : begun first last ≡ c = cc in subst (λ (x : Counters). table_ok nodes inputs keys lits marks clauses x ≡ true) p (fresh_table nodes inputs keys lits marks clauses first last e)
     go false e q = absurd (let z : ◌≡◌ {A = ℕ} 0 1 = cc in omega arith)
 
@@ -89,7 +86,7 @@ module _ (nodes : List ℕ) (inputs : List ℤ) (keys : List ℕ) (lits : List �
       ap (λ (k : ℕ). table_ok_at (node_at (put_node nodes c.nodes n)) (k / node_words) inputs' keys' lits' marks' clauses c') (put_length nodes c.nodes n)
       ∙ table_made (node_at (put_node nodes c.nodes n)) (length nodes / node_words) inputs' keys' lits' marks' clauses c' f
 
-  pub leaf_keeps : (x : ℤ) → leaf_plan nodes inputs keys lits marks clauses c x ≡ New
+  pub leaf_keeps : (x : ℤ) → leaf_plan nodes inputs keys lits marks clauses c x ≡ Ok None
       → table_ok (put_node nodes c.nodes (leaf_node c.inputs)) (set inputs c.inputs x) keys lits marks clauses (with_leaf c) ≡ true
   leaf_keeps x h =
       let p = leaf_new nodes inputs keys lits marks clauses c x h in
@@ -106,7 +103,7 @@ module _ (nodes : List ℕ) (inputs : List ℤ) (keys : List ℕ) (lits : List �
       (λ i l m. absurd (omega arith))
       (a_leaf refl (record { left = refl; lmul = refl; right = refl; rmul = refl; place = refl; count = refl; depth = refl })))
 
-  pub dummy_keeps : dummy_plan nodes inputs keys lits marks clauses c ≡ New
+  pub dummy_keeps : dummy_plan nodes inputs keys lits marks clauses c ≡ Ok None
       → table_ok (put_node nodes c.nodes dummy_node) inputs keys lits marks clauses (with_dummy c) ≡ true
   dummy_keeps h =
       let p = dummy_new nodes inputs keys lits marks clauses c h in
@@ -220,7 +217,7 @@ module _ (nodes : List ℕ) (inputs : List ℤ) (keys : List ℕ) (lits : List �
         key_low = λ i h. omega (arith, at i h, u.low i h);
       })))
 
-  pub inner_keeps : (j : Pair) (n : Node) → inner_plan nodes inputs keys lits marks clauses c j ≡ Make n → InnerPasses n
+  pub inner_keeps : (j : Pair) (n : Node) → inner_plan nodes inputs keys lits marks clauses c j ≡ Ok n → InnerPasses n
   inner_keeps j n h =
       let p = inner_made nodes inputs keys lits marks clauses c j n h in
       ⊎_elim (λ u. unit_keeps j n p.left_there p.right_there u) (λ u. general_keeps j n p.left_there p.right_there u) p.made

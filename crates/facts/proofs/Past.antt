@@ -1,7 +1,9 @@
 -- "Nothing but 0 changes anything outside the working area"; "A done call leaves every entry past the new counts as it stood"; and no row changes its length.
 -- Assumes nothing.
+use Rattle.paper.specs.Answers.{gives}
+use Rattle.paper.specs.declared.Refusal.{Refusal}
 use Rattle.std.specs.Prelude.{ℕ, zero, suc, ◌+◌, ◌-◌, ◌<◌, ◌≤◌, max, List, [], ◌∷◌, ◌++◌, Bool, true, false, cond, ◌≡◌, refl, length, get_or, drop, set, replicate, leb, ltb, ℤ, pos}
-use Rattle.std.proofs.Common.{sym, ap, subst, ◌∙◌, ⊎_elim, arith, length-set, drop_at, get_or-drop, get_or-set_other, ltb-true}
+use Rattle.std.proofs.Common.{sym, ap, subst, ◌∙◌, ⊎_elim, arith, length-set, drop_at, get_or-drop, get_or-set_other, ltb-true, Err, None, Ok, Option, Result, Some}
 use Rattle.std.proofs.lemmas.List.{length-replicate}
 use Rattle.std.proofs.lemmas.List.Edits.{sets, length-paste}
 use Rattle.std.proofs.Math.Seq.{length-sets, length_front}
@@ -22,16 +24,7 @@ use Rattle.paper.specs.declared.Semantics.{Semantics}
 use Rattle.paper.specs.declared.Pair.{Pair}
 use Rattle.paper.specs.declared.Sizes.{Sizes}
 use Rattle.paper.specs.declared.Refusal.TheVariants.{TableFails, WorkShort, NoSuchNode, VariablesOut}
-use Rattle.paper.specs.declared.Begun.{Begun}
-use Rattle.paper.specs.declared.Begun.TheVariants.{Made, NotMade}
-use Rattle.paper.specs.declared.Choice.{Choice}
-use Rattle.paper.specs.declared.Choice.TheVariants.{Old, New, No}
-use Rattle.paper.specs.declared.Planned.{Planned}
-use Rattle.paper.specs.declared.Planned.TheVariants.{Make, Reject}
 use Rattle.paper.specs.declared.Demanded.{Demanded}
-use Rattle.paper.specs.declared.Demanded.TheVariants.{Given, NotGiven}
-use Rattle.paper.specs.declared.Kept.{Kept}
-use Rattle.paper.specs.declared.Kept.TheVariants.{Did, DidNot}
 use Rattle.facts.specs.Facts.{NodeFactsAt, a_leaf, a_dummy, a_unit, a_general, TableFacts}
 use Rattle.facts.proofs.Facts.{table_facts, used_length}
 use Rattle.facts.proofs.Words.{put_above, put_length}
@@ -44,7 +37,7 @@ use Rattle.facts.specs.Past.{AllBelow, Past}
 
 -- ---- a call that is refused leaves the database as it was
 
-refused_demand : (d : Db) (r : Demanded) (p : St (List ℤ)) → ((demanded_said r d.counters).number ≡ 0 → ⊥)
+refused_demand : (d : Db) (r : Result Demanded Refusal) (p : St (List ℤ)) → ((demanded_said r d.counters).number ≡ 0 → ⊥)
     → ◌≡◌ {A = Db} (record {
       nodes = d.nodes;
       inputs = d.inputs;
@@ -54,60 +47,60 @@ refused_demand : (d : Db) (r : Demanded) (p : St (List ℤ)) → ((demanded_said
       clauses = demanded_clauses r p d.clauses d.counters;
       counters = (demanded_said r d.counters).counters;
     }) d
-refused_demand d (Given z c) p h = absurd (h refl)
-refused_demand d (NotGiven w) p h = refl
+refused_demand d (Ok a) p h = absurd (h refl)
+refused_demand d (Err w) p h = refl
 
 pub refused_stays : (d : Db) (k : Call) → ((step d k).said.number ≡ 0 → ⊥) → (step d k).db ≡ d
 unfolding step fresh_step leaf_call dummy_call inner_call unweighted_call weighted_call reserve_call value_call reset_call empty_call check_call
 refused_stays d (fresh first last) h = go (fresh_of first last) h
   where
-    go : (b : Begun) → ((begun_said b d.counters).number ≡ 0 → ⊥)
+    go : (b : Result Counters Refusal) → ((begun_said b d.counters).number ≡ 0 → ⊥)
         → ◌≡◌ {A = Db} (record { nodes = d.nodes; inputs = d.inputs; keys = d.keys; lits = d.lits; marks = d.marks; clauses = d.clauses; counters = (begun_said b d.counters).counters }) d
-    go (Made c) q = absurd (q refl)
-    go (NotMade w) q = refl
+    go (Ok c) q = absurd (q refl)
+    go (Err w) q = refl
 refused_stays d (leaf x) h = go (leaf_plan d.nodes d.inputs d.keys d.lits d.marks (length d.clauses) d.counters x) h
   where
-    go : (p : Choice) → ((added_said (leaf_added p d.counters) d.counters).number ≡ 0 → ⊥)
+    go : (p : Result (Option ℕ) Refusal) → ((added_said (leaf_added p d.counters) d.counters).number ≡ 0 → ⊥)
         → ◌≡◌ {A = Db} (record { nodes = leaf_nodes p d.nodes d.counters; inputs = leaf_inputs p d.inputs d.counters x; keys = d.keys; lits = d.lits; marks = d.marks; clauses = d.clauses; counters = (added_said (leaf_added p d.counters) d.counters).counters }) d
-    go (Old id) q = absurd (q refl)
-    go New q = absurd (q refl)
-    go (No w) q = refl
+    go (Ok (Some id)) q = absurd (q refl)
+    go (Ok None) q = absurd (q refl)
+    go (Err w) q = refl
 refused_stays d dummy h = go (dummy_plan d.nodes d.inputs d.keys d.lits d.marks (length d.clauses) d.counters) h
   where
-    go : (p : Choice) → ((added_said (dummy_added p d.counters) d.counters).number ≡ 0 → ⊥)
+    go : (p : Result (Option ℕ) Refusal) → ((added_said (dummy_added p d.counters) d.counters).number ≡ 0 → ⊥)
         → ◌≡◌ {A = Db} (record { nodes = dummy_nodes p d.nodes d.counters; inputs = d.inputs; keys = d.keys; lits = d.lits; marks = d.marks; clauses = d.clauses; counters = (added_said (dummy_added p d.counters) d.counters).counters }) d
-    go (Old id) q = absurd (q refl)
-    go New q = absurd (q refl)
-    go (No w) q = refl
+    go (Ok (Some id)) q = absurd (q refl)
+    go (Ok None) q = absurd (q refl)
+    go (Err w) q = refl
 refused_stays d (inner j) h = go (inner_plan d.nodes d.inputs d.keys d.lits d.marks (length d.clauses) d.counters j) h
   where
-    go : (p : Planned) → ((added_said (inner_added p d.counters) d.counters).number ≡ 0 → ⊥)
+    go : (p : Result Node Refusal) → ((added_said (inner_added p d.counters) d.counters).number ≡ 0 → ⊥)
         → ◌≡◌ {A = Db} (record { nodes = inner_nodes p d.nodes d.counters; inputs = d.inputs; keys = inner_keys p d.nodes d.keys; lits = inner_lits p d.lits; marks = inner_marks p d.marks; clauses = d.clauses; counters = (added_said (inner_added p d.counters) d.counters).counters }) d
-    go (Make n) q = absurd (q refl)
-    go (Reject w) q = refl
+    go (Ok n) q = absurd (q refl)
+    go (Err w) q = refl
 refused_stays d (unweighted w id i m) h =
     refused_demand d (count_of d.nodes d.inputs d.keys d.lits d.marks (length d.clauses) w.ints w.bytes d.counters id i (want_of m)) (count_run d.nodes d.inputs d.lits d.marks d.counters id i (want_of m)) h
 refused_stays d (weighted w id v) h =
     refused_demand d (sum_of d.nodes d.inputs d.keys d.lits d.marks (length d.clauses) w.ints w.bytes d.counters id v) (sum_run d.nodes d.inputs d.keys d.lits d.marks d.counters id v) h
 refused_stays d (reserve w id) h = go (reserve_of d.nodes d.inputs d.keys d.lits d.marks (length d.clauses) w.ints w.bytes d.counters id) h
   where
-    go : (r : Kept) → ((kept_said r d.counters).number ≡ 0 → ⊥)
+    go : (r : Result Counters Refusal) → ((kept_said r d.counters).number ≡ 0 → ⊥)
         → ◌≡◌ {A = Db} (record { nodes = d.nodes; inputs = d.inputs; keys = d.keys; lits = kept_row r d.lits (reserved_by d.nodes d.lits id d.counters.next).lits; marks = d.marks; clauses = d.clauses; counters = (kept_said r d.counters).counters }) d
-    go (Did c) q = absurd (q refl)
-    go (DidNot w) q = refl
+    go (Ok c) q = absurd (q refl)
+    go (Err w) q = refl
 refused_stays d (value w id a) h = refl
 refused_stays d reset h = go (reset_of d.nodes d.inputs d.keys d.lits d.marks (length d.clauses) d.counters) h
   where
-    go : (r : Kept) → ((kept_said r d.counters).number ≡ 0 → ⊥)
+    go : (r : Result Counters Refusal) → ((kept_said r d.counters).number ≡ 0 → ⊥)
         → ◌≡◌ {A = Db} (record { nodes = d.nodes; inputs = d.inputs; keys = d.keys; lits = d.lits; marks = kept_row r d.marks (cleared_marks d.marks d.counters); clauses = d.clauses; counters = (kept_said r d.counters).counters }) d
-    go (Did c) q = absurd (q refl)
-    go (DidNot w) q = refl
+    go (Ok c) q = absurd (q refl)
+    go (Err w) q = refl
 refused_stays d empty h = go (empty_of d.nodes d.inputs d.keys d.lits d.marks (length d.clauses) d.counters) h
   where
-    go : (r : Kept) → ((kept_said r d.counters).number ≡ 0 → ⊥)
+    go : (r : Result Counters Refusal) → ((kept_said r d.counters).number ≡ 0 → ⊥)
         → ◌≡◌ {A = Db} (record { nodes = d.nodes; inputs = d.inputs; keys = d.keys; lits = d.lits; marks = d.marks; clauses = d.clauses; counters = (kept_said r d.counters).counters }) d
-    go (Did c) q = absurd (q refl)
-    go (DidNot w) q = refl
+    go (Ok c) q = absurd (q refl)
+    go (Err w) q = refl
 refused_stays d check h = refl
 
 -- the same rows, whatever the counters
@@ -148,10 +141,10 @@ leaf_past : (d : Db) (x : ℤ) → Past d (leaf_call d x).db
 unfolding leaf_call
 leaf_past d x = go (leaf_plan d.nodes d.inputs d.keys d.lits d.marks (length d.clauses) d.counters x)
   where
-    go : (p : Choice) → Past d (record { nodes = leaf_nodes p d.nodes d.counters; inputs = leaf_inputs p d.inputs d.counters x; keys = d.keys; lits = d.lits; marks = d.marks; clauses = d.clauses; counters = (added_said (leaf_added p d.counters) d.counters).counters })
-    go (Old id) = rows_same d d.counters
-    go (No w) = rows_same d d.counters
-    go New =
+    go : (p : Result (Option ℕ) Refusal) → Past d (record { nodes = leaf_nodes p d.nodes d.counters; inputs = leaf_inputs p d.inputs d.counters x; keys = d.keys; lits = d.lits; marks = d.marks; clauses = d.clauses; counters = (added_said (leaf_added p d.counters) d.counters).counters })
+    go (Ok (Some id)) = rows_same d d.counters
+    go (Err w) = rows_same d d.counters
+    go (Ok None) =
         record {
           nodes_size = put_length d.nodes d.counters.nodes (leaf_node d.counters.inputs);
           inputs_size = length-set d.inputs d.counters.inputs x;
@@ -171,10 +164,10 @@ dummy_past : (d : Db) → Past d (dummy_call d).db
 unfolding dummy_call
 dummy_past d = go (dummy_plan d.nodes d.inputs d.keys d.lits d.marks (length d.clauses) d.counters)
   where
-    go : (p : Choice) → Past d (record { nodes = dummy_nodes p d.nodes d.counters; inputs = d.inputs; keys = d.keys; lits = d.lits; marks = d.marks; clauses = d.clauses; counters = (added_said (dummy_added p d.counters) d.counters).counters })
-    go (Old id) = rows_same d d.counters
-    go (No w) = rows_same d d.counters
-    go New =
+    go : (p : Result (Option ℕ) Refusal) → Past d (record { nodes = dummy_nodes p d.nodes d.counters; inputs = d.inputs; keys = d.keys; lits = d.lits; marks = d.marks; clauses = d.clauses; counters = (added_said (dummy_added p d.counters) d.counters).counters })
+    go (Ok (Some id)) = rows_same d d.counters
+    go (Err w) = rows_same d d.counters
+    go (Ok None) =
         record {
           nodes_size = put_length d.nodes d.counters.nodes dummy_node;
           inputs_size = refl;
@@ -198,7 +191,7 @@ record Placed (nodes keys : List ℕ) (lits : List ℤ) (marks : List ℕ) (n : 
   enough : n.count ≤ length (new_keys nodes keys n)
 
 inner_placed : (nodes : List ℕ) (inputs : List ℤ) (keys : List ℕ) (lits : List ℤ) (marks : List ℕ) (clauses : ℕ) (c : Counters) (j : Pair) (n : Node)
-    → inner_plan nodes inputs keys lits marks clauses c j ≡ Make n → Placed nodes keys lits marks n
+    → inner_plan nodes inputs keys lits marks clauses c j ≡ Ok n → Placed nodes keys lits marks n
 inner_placed nodes inputs keys lits marks clauses c j n h = ⊎_elim unit general p.made
   where
     s : Sizes
@@ -229,10 +222,10 @@ inner_past : (d : Db) (j : Pair) → Past d (inner_call d j).db
 unfolding inner_call
 inner_past d j = go (inner_plan d.nodes d.inputs d.keys d.lits d.marks (length d.clauses) d.counters j) refl
   where
-    go : (p : Planned) → inner_plan d.nodes d.inputs d.keys d.lits d.marks (length d.clauses) d.counters j ≡ p
+    go : (p : Result Node Refusal) → inner_plan d.nodes d.inputs d.keys d.lits d.marks (length d.clauses) d.counters j ≡ p
         → Past d (record { nodes = inner_nodes p d.nodes d.counters; inputs = d.inputs; keys = inner_keys p d.nodes d.keys; lits = inner_lits p d.lits; marks = inner_marks p d.marks; clauses = d.clauses; counters = (added_said (inner_added p d.counters) d.counters).counters })
-    go (Reject w) e = rows_same d d.counters
-    go (Make n) e =
+    go (Err w) e = rows_same d d.counters
+    go (Ok n) e =
         let f = inner_placed d.nodes d.inputs d.keys d.lits d.marks (length d.clauses) d.counters j n e in
         let K = new_keys d.nodes d.keys n in
         let el = length-replicate {A = ℤ} n.count (pos 0) in
@@ -255,8 +248,8 @@ inner_past d j = go (inner_plan d.nodes d.inputs d.keys d.lits d.marks (length d
 -- ---- the demands
 
 -- the answer r of the run p, whose rows have the length of the cells in use
-demand_past : (d : Db) (r : Demanded) (p : St (List ℤ))
-    → ((z : ℤ) (c : Counters) → r ≡ Given z c → (ran_counters p d.counters ≡ c) × (length p.lits ≡ length (cells_used d.lits d.counters)) × (length p.marks ≡ length (cells_used d.marks d.counters))
+demand_past : (d : Db) (r : Result Demanded Refusal) (p : St (List ℤ))
+    → ((z : ℤ) (c : Counters) → r ≡ gives z c → (ran_counters p d.counters ≡ c) × (length p.lits ≡ length (cells_used d.lits d.counters)) × (length p.marks ≡ length (cells_used d.marks d.counters))
     × (d.counters.cells ≤ length d.lits) × (d.counters.cells ≤ length d.marks))
     → Past d (record {
       nodes = d.nodes;
@@ -267,10 +260,11 @@ demand_past : (d : Db) (r : Demanded) (p : St (List ℤ))
       clauses = demanded_clauses r p d.clauses d.counters;
       counters = (demanded_said r d.counters).counters;
     })
-demand_past d (NotGiven w) p h = rows_same d d.counters
-demand_past d (Given z c') p h =
+demand_past d (Err w) p h = rows_same d d.counters
+demand_past d (Ok a) p h =
     let c = d.counters in
-    let q = h z c' refl in
+    let c' = a.counters in
+    let q = h a.lit c' refl in
     let ew : c.words + length p.out ≡ c'.words = ap (λ (x : Counters). x.words) q.0 in
     let ec : c.cells ≡ c'.cells = ap (λ (x : Counters). x.cells) q.0 in
     record {
@@ -363,13 +357,13 @@ reserve_past d w id =
     s : Stock
     s = reserved_by d.nodes d.lits id d.counters.next
 
-    R : Bool → Bool → Bool → Bool → Kept
-    R t k h r = cond t (cond k (cond h (cond r (Did (with_next d.counters s.next)) (DidNot VariablesOut)) (DidNot NoSuchNode)) (DidNot WorkShort)) (DidNot TableFails)
+    R : Bool → Bool → Bool → Bool → Result Counters Refusal
+    R t k h r = cond t (cond k (cond h (cond r (Ok (with_next d.counters s.next)) (Err VariablesOut)) (Err NoSuchNode)) (Err WorkShort)) (Err TableFails)
 
-    E : Kept → Db
+    E : Result Counters Refusal → Db
     E r = record { nodes = d.nodes; inputs = d.inputs; keys = d.keys; lits = kept_row r d.lits s.lits; marks = d.marks; clauses = d.clauses; counters = (kept_said r d.counters).counters }
 
-    did : table_ok d.nodes d.inputs d.keys d.lits d.marks (length d.clauses) d.counters ≡ true → id < c.nodes → Past d (E (Did (with_next d.counters s.next)))
+    did : table_ok d.nodes d.inputs d.keys d.lits d.marks (length d.clauses) d.counters ≡ true → id < c.nodes → Past d (E (Ok (with_next d.counters s.next)))
     did ok here =
         let t = table_facts (node_at d.nodes) _ d.inputs d.keys d.lits d.marks (length d.clauses) c ok in
         let ks = places_of (id + 1) d.nodes id in
@@ -409,7 +403,7 @@ reset_past d = go (table_ok d.nodes d.inputs d.keys d.lits d.marks (length d.cla
     c = d.counters
 
     go : (t : Bool) → table_ok d.nodes d.inputs d.keys d.lits d.marks (length d.clauses) d.counters ≡ t
-        → Past d (record { nodes = d.nodes; inputs = d.inputs; keys = d.keys; lits = d.lits; marks = kept_row (cond t (Did d.counters) (DidNot TableFails)) d.marks (cleared_marks d.marks d.counters); clauses = d.clauses; counters = (kept_said (cond t (Did d.counters) (DidNot TableFails)) d.counters).counters })
+        → Past d (record { nodes = d.nodes; inputs = d.inputs; keys = d.keys; lits = d.lits; marks = kept_row (cond t (Ok d.counters) (Err TableFails)) d.marks (cleared_marks d.marks d.counters); clauses = d.clauses; counters = (kept_said (cond t (Ok d.counters) (Err TableFails)) d.counters).counters })
     go false e = rows_same d d.counters
     go true e =
         let t = table_facts (node_at d.nodes) _ d.inputs d.keys d.lits d.marks (length d.clauses) c e in

@@ -5,7 +5,7 @@ use Prim.Native.Nat.{ℕ, zero, suc, ◌+◌, ◌-◌, ◌%◌, ◌/◌, ◌<◌
 use Rattle.std.specs.Prelude.{List, Bool, cond, ◌≡◌, ◌⊎◌, get_or, eqb, ltb, ℤ}
 use Rattle.std.proofs.Math.Bool.{true, false}
 use Rattle.std.proofs.Math.Path.{refl}
-use Rattle.std.proofs.Common.{sym, subst, ◌∙◌, inl, inr, arith}
+use Rattle.std.proofs.Common.{sym, subst, ◌∙◌, inl, inr, arith, None, Some}
 use borrow.Author.Tests.{eqb-true, eqb-false, ltb-true, ltb-false, eq-eqb, ne_eqb}
 use Rattle.paper.specs.Span.{over, span}
 use Rattle.paper.specs.Rows.{node_at, is_unit, is_general, is_dummy, value_count, con_len, con_val}
@@ -18,7 +18,6 @@ use Rattle.paper.specs.declared.Span.{Span}
 use Rattle.paper.specs.declared.Clause.{Clause}
 use Rattle.paper.specs.declared.Precond.{Precond}
 use Rattle.paper.specs.declared.Precond.TheVariants.{Return, Pass, Continue}
-use Rattle.paper.specs.declared.Found.TheVariants.{At, Absent}
 use Rattle.paper.specs.declared.Way.{Way}
 use Rattle.paper.specs.declared.Job.TheVariants.{Nothing, Count, Sum}
 use Rattle.facts.proofs.Ranges.{if_to, only_to, span_to}
@@ -71,7 +70,7 @@ unfolding key_from
 key_place keys first v zero k = omega arith
 key_place keys first v (suc n) k = go (eqb (get_or keys (first + k) 0) v) (key_place keys first v n (k + 1))
   where
-    go : (t : Bool) → place_of (key_from keys first v n (k + 1)) ≤ k + 1 + n → place_of (cond t (At k) (key_from keys first v n (k + 1))) ≤ k + suc n
+    go : (t : Bool) → place_of (key_from keys first v n (k + 1)) ≤ k + 1 + n → place_of (cond t (Some k) (key_from keys first v n (k + 1))) ≤ k + suc n
     go true h = omega arith
     go false h = omega arith
 
@@ -80,7 +79,7 @@ unfolding output_of
 output_place keys n v = go (is_general n) refl (eqb v 0) refl (ltb (value_count n) v) refl
   where
     go : (g : Bool) → is_general n ≡ g → (z : Bool) → eqb v 0 ≡ z → (b : Bool) → ltb (value_count n) v ≡ b
-        → place_of (cond g (key_from keys n.first v n.count 0) (cond z Absent (cond b Absent (At (v - 1))))) ≤ value_count n
+        → place_of (cond g (key_from keys n.first v n.count 0) (cond z None (cond b None (Some (v - 1))))) ≤ value_count n
     go true e z y b q = omega (arith, key_place keys n.first v n.count 0, general_outputs n (eqb-true _ _ e))
     go false e true y b q = omega arith
     go false e false y true q = omega arith

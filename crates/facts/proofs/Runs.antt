@@ -1,9 +1,11 @@
 -- Laws of the demands: what a done demand does to the rows, that it answers a literal, and that a demand that is already met does nothing.
 -- Assumes nothing.
+use Rattle.paper.specs.Answers.{gives}
+use Rattle.paper.specs.declared.Refusal.{Refusal}
 use Prim.Native.Nat.{ℕ, zero, suc, ◌+◌, ◌-◌, ◌<◌, ◌≤◌}
 use mathlib.Core.List.{List, ◌++◌, append_assoc}
 use Rattle.std.specs.Prelude.{Bool, true, false, cond, not, ◌&&◌, ◌||◌, ◌≡◌, refl, length, get_or, take, drop, set, eqb, negsuc, nat_abs}
-use Rattle.std.proofs.Common.{sym, subst, ◌∙◌, inl, inr, ⊎_elim, add-zero, add-one, take-append-drop, length-take-le, get_or-take, get_or-drop, get_or-append-add, get_or-set_same, take_at, drop_at, eqb-true, ltb-true, eq-eqb, ne_eqb}
+use Rattle.std.proofs.Common.{sym, subst, ◌∙◌, inl, inr, ⊎_elim, add-zero, add-one, take-append-drop, length-take-le, get_or-take, get_or-drop, get_or-append-add, get_or-set_same, take_at, drop_at, eqb-true, ltb-true, eq-eqb, ne_eqb, Err, None, Option, Result, Some, Ok}
 use Rattle.std.proofs.Math.Path.{ap}
 use native.Mathlib.Omega.{arith}
 use Rattle.std.proofs.Math.ListN.{get_or-append}
@@ -25,12 +27,9 @@ use Rattle.paper.specs.declared.Semantics.{Semantics}
 use Rattle.paper.specs.declared.Semantics.TheVariants.{If, OnlyIf, IfAndOnlyIf}
 use Rattle.paper.specs.declared.Clause.{Clause}
 use Rattle.paper.specs.declared.Precond.TheVariants.{Return}
-use Rattle.paper.specs.declared.Found.{Found}
-use Rattle.paper.specs.declared.Found.TheVariants.{At, Absent}
 use Rattle.paper.specs.declared.Job.TheVariants.{Nothing, Count, Sum}
 use Rattle.paper.specs.declared.Counters.{Counters}
 use Rattle.paper.specs.declared.Demanded.{Demanded}
-use Rattle.paper.specs.declared.Demanded.TheVariants.{Given, NotGiven}
 use Rattle.facts.specs.Facts.{NodeFactsAt, a_leaf, a_dummy, a_unit, a_general, TableFacts}
 use Rattle.facts.proofs.Facts.{table_facts, leaf_low, node_under, dummy_outputs, unit_outputs, general_outputs, leaf_outputs, node_used, used_at}
 use Rattle.facts.specs.Carry.{moved}
@@ -406,7 +405,7 @@ module _ (nodes : List ℕ) (inputs : List ℤ) (keys : List ℕ) (lits : List �
 
 module _ (nodes : List ℕ) (inputs : List ℤ) (keys : List ℕ) (lits : List ℤ) (marks : List ℕ) (clauses ints bytes : ℕ) (c : Counters) where
   -- "answers a literal"
-  pub count_answer : (id i : ℕ) (w : Want) (z : ℤ) (c' : Counters) → count_of nodes inputs keys lits marks clauses ints bytes c id i w ≡ Given z c' → (w.fi || w.fo) ≡ true → is_zero z ≡ false
+  pub count_answer : (id i : ℕ) (w : Want) (z : ℤ) (c' : Counters) → count_of nodes inputs keys lits marks clauses ints bytes c id i w ≡ gives z c' → (w.fi || w.fo) ≡ true → is_zero z ≡ false
   count_answer id i w z c' h asks =
       let p = count_run nodes inputs lits marks c id i w in
       let t = count_done nodes inputs keys lits marks clauses ints bytes c id i w z c' h in
@@ -416,20 +415,20 @@ module _ (nodes : List ℕ) (inputs : List ℤ) (keys : List ℕ) (lits : List �
       ap is_zero (sym r.answer)
       ∙ count_lit nodes inputs keys lits marks clauses c t.table_passes id i w here (rw (e) (ltb-true _ _ t.output_ok)) (rw (e) t.not_general) asks
 
-  pub sum_answer : (id v : ℕ) (z : ℤ) (c' : Counters) → sum_of nodes inputs keys lits marks clauses ints bytes c id v ≡ Given z c' → is_zero z ≡ false
+  pub sum_answer : (id v : ℕ) (z : ℤ) (c' : Counters) → sum_of nodes inputs keys lits marks clauses ints bytes c id v ≡ gives z c' → is_zero z ≡ false
   sum_answer id v z c' h =
       let p = sum_run nodes inputs keys lits marks c id v in
       let t = sum_done nodes inputs keys lits marks clauses ints bytes c id v z c' h in
       let r = roomy p c clauses (lit_at (con_lits (nodes_used nodes c) (inputs_used inputs c) p.lits id) (index_of (sum_place nodes keys c id v))) z c' t.given in
       ap is_zero (sym r.answer) ∙ go t.table_passes (ltb-true _ _ t.here_ok) (sum_place nodes keys c id v) (output_place (cells_used keys c) (node_at nodes id) v) t.output_ok
     where
-      go : table_ok nodes inputs keys lits marks clauses c ≡ true → id < c.nodes → (o : Found) → place_of o ≤ value_count (node_at nodes id) → is_at o ≡ true
+      go : table_ok nodes inputs keys lits marks clauses c ≡ true → id < c.nodes → (o : Option ℕ) → place_of o ≤ value_count (node_at nodes id) → is_at o ≡ true
           → is_zero (lit_at (con_lits (nodes_used nodes c) (inputs_used inputs c) (weigh_run (nodes_used nodes c) (inputs_used inputs c) (cells_used keys c) (cells_used lits c) (cells_used marks c) c.next id (place_of o)).lits id) (index_of o)) ≡ false
-      go ok here (At j) low q = place_some nodes inputs keys lits marks clauses c ok id j here (rw (node_used nodes c.nodes id here) (omega arith))
-      go ok here Absent low q = absurd (let y : ◌≡◌ {A = ℕ} 0 1 = cc in omega arith)
+      go ok here (Some j) low q = place_some nodes inputs keys lits marks clauses c ok id j here (rw (node_used nodes c.nodes id here) (omega arith))
+      go ok here None low q = absurd (let y : ◌≡◌ {A = ℕ} 0 1 = cc in omega arith)
 
   -- the rows: what was there stays; the new literals are next, next + 1, .., each in one cell
-  pub count_rows : (id i : ℕ) (w : Want) (z : ℤ) (c' : Counters) → count_of nodes inputs keys lits marks clauses ints bytes c id i w ≡ Given z c'
+  pub count_rows : (id i : ℕ) (w : Want) (z : ℤ) (c' : Counters) → count_of nodes inputs keys lits marks clauses ints bytes c id i w ≡ gives z c'
       → Ran (nodes_used nodes c) c.nodes (id + 1) lits marks c.next
       (cells_back (count_run nodes inputs lits marks c id i w).lits lits c) (cells_back (count_run nodes inputs lits marks c id i w).marks marks c) c'.next
   count_rows id i w z c' h =
@@ -441,7 +440,7 @@ module _ (nodes : List ℕ) (inputs : List ℤ) (keys : List ℕ) (lits : List �
       (ran_back (nodes_used nodes c) c.nodes (id + 1) lits p.lits marks p.marks c.next p.next c.cells f.lit_row f.mark_row (used_laid nodes inputs keys lits marks clauses c t.table_passes)
       (count_ran nodes inputs keys lits marks clauses c t.table_passes id i w (ltb-true _ _ t.here_ok) (ltb-true _ _ t.output_ok)))
 
-  pub sum_rows : (id v : ℕ) (z : ℤ) (c' : Counters) → sum_of nodes inputs keys lits marks clauses ints bytes c id v ≡ Given z c'
+  pub sum_rows : (id v : ℕ) (z : ℤ) (c' : Counters) → sum_of nodes inputs keys lits marks clauses ints bytes c id v ≡ gives z c'
       → Ran (nodes_used nodes c) c.nodes (id + 1) lits marks c.next
       (cells_back (sum_run nodes inputs keys lits marks c id v).lits lits c) (cells_back (sum_run nodes inputs keys lits marks c id v).marks marks c) c'.next
   sum_rows id v z c' h =
@@ -461,7 +460,7 @@ pub cell_in : (nodes : List ℕ) (inputs : List ℤ) (keys : List ℕ) (lits : L
 cell_in nodes inputs keys lits marks clauses c ok id i h o nl = omega (arith, node_under (table_facts (node_at nodes) _ inputs keys lits marks clauses c ok) id h nl)
 
 -- the database after a demand whose run is no run
-unmoved : (d : Db) (r : Demanded) (p : St (List ℤ)) → ((z : ℤ) (c' : Counters) → r ≡ Given z c' → (p ≡ start (cells_used d.lits d.counters) (cells_used d.marks d.counters) d.counters.next) × (ran_counters p d.counters ≡ c'))
+unmoved : (d : Db) (r : Result Demanded Refusal) (p : St (List ℤ)) → ((z : ℤ) (c' : Counters) → r ≡ gives z c' → (p ≡ start (cells_used d.lits d.counters) (cells_used d.marks d.counters) d.counters.next) × (ran_counters p d.counters ≡ c'))
     → ◌≡◌ {A = Db} (record {
       nodes = d.nodes;
       inputs = d.inputs;
@@ -471,10 +470,11 @@ unmoved : (d : Db) (r : Demanded) (p : St (List ℤ)) → ((z : ℤ) (c' : Count
       clauses = demanded_clauses r p d.clauses d.counters;
       counters = (demanded_said r d.counters).counters;
     }) d
-unmoved d (NotGiven w) p h = refl
-unmoved d (Given z c') p h =
+unmoved d (Err w) p h = refl
+unmoved d (Ok a) p h =
     let c = d.counters in
-    let q = h z c' refl in
+    let c' = a.counters in
+    let q = h a.lit c' refl in
     let el : cells_back p.lits d.lits c ≡ d.lits = ap (λ (x : St (List ℤ)). cells_back x.lits d.lits c) q.0 ∙ take-append-drop c.cells d.lits in
     let em : cells_back p.marks d.marks c ≡ d.marks = ap (λ (x : St (List ℤ)). cells_back x.marks d.marks c) q.0 ∙ take-append-drop c.cells d.marks in
     let ew : sets d.clauses c.words p.out ≡ d.clauses = ap (λ (x : St (List ℤ)). sets d.clauses c.words x.out) q.0 in
@@ -520,13 +520,13 @@ weighted_met d w id v mu mg =
     (run t.table_passes (ltb-true _ _ t.here_ok) o (output_place (cells_used d.keys c) (node_at d.nodes id) v) t.output_ok mu mg, r.counters))
   where
     run : table_ok d.nodes d.inputs d.keys d.lits d.marks (length d.clauses) d.counters ≡ true → id < d.counters.nodes
-        → (o : Found) → place_of o ≤ value_count (node_at d.nodes id) → is_at o ≡ true
+        → (o : Option ℕ) → place_of o ≤ value_count (node_at d.nodes id) → is_at o ≡ true
         → ((node_at d.nodes id).kind ≡ 1 → Met (get_or d.marks ((node_at d.nodes id).first + index_of o) 0) just_if)
         → ((node_at d.nodes id).kind ≡ 2 → get_or d.marks ((node_at d.nodes id).first + index_of o) 0 ≡ 0 → ⊥)
         → weigh grow (id + 1) (nodes_used d.nodes d.counters) (inputs_used d.inputs d.counters) (cells_used d.keys d.counters) id (place_of o) (start (cells_used d.lits d.counters) (cells_used d.marks d.counters) d.counters.next)
         ≡ start (cells_used d.lits d.counters) (cells_used d.marks d.counters) d.counters.next
-    run ok here Absent low at gu gg = absurd (let y : ◌≡◌ {A = ℕ} 0 1 = cc in omega arith)
-    run ok here (At j) low at gu gg =
+    run ok here None low at gu gg = absurd (let y : ◌≡◌ {A = ℕ} 0 1 = cc in omega arith)
+    run ok here (Some j) low at gu gg =
         let c = d.counters in
         let N = nodes_used d.nodes c in
         let n = node_at d.nodes id in

@@ -1,19 +1,20 @@
 -- A demand that is done: what its answer says, and that it leaves a table that passes. Assumes nothing.
-use Rattle.std.specs.Prelude.{ℕ, ◌+◌, ◌≤◌, List, Bool, true, false, ◌≡◌, length, ℤ}
+use Rattle.paper.specs.Answers.{gives}
+use Rattle.paper.specs.declared.Refusal.{Refusal}
+use Rattle.std.specs.Prelude.{ℕ, ◌+◌, ◌≤◌, List, Bool, true, false, ◌≡◌, length, ℤ, Result}
 use Rattle.paper.specs.Plain.{St}
 use Rattle.paper.specs.Demand.{ran_counters}
 use Rattle.paper.specs.declared.Counters.{Counters}
 use Rattle.paper.specs.declared.Demanded.{Demanded}
-use Rattle.paper.specs.declared.Demanded.TheVariants.{Given}
 
 -- every test before the room was passed
-pub record Through (table work here general output : Bool) (room : Demanded) (z : ℤ) (c : Counters) : Type 0 where
+pub record Through (table work here general output : Bool) (room : Result Demanded Refusal) (z : ℤ) (c : Counters) : Type 0 where
   pub table_passes : table ≡ true
   pub work_passes : work ≡ true
   pub here_ok : here ≡ true
   pub not_general : general ≡ false
   pub output_ok : output ≡ true
-  pub given : room ≡ Given z c
+  pub given : room ≡ gives z c
 
 -- the run p had room
 pub record Roomy (p : St (List ℤ)) (c : Counters) (clauses : ℕ) (x z : ℤ) (c' : Counters) : Type 0 where

@@ -1,20 +1,21 @@
 -- A demand that says 0, as one statement over the whole database; and the same demand once more, which changes nothing. Assumes nothing.
-use Rattle.std.specs.Prelude.{ℕ, ◌+◌, ◌≤◌, false, take, drop, ℤ}
+use Rattle.paper.specs.Answers.{gives}
+use Rattle.paper.specs.declared.Refusal.{Refusal}
+use Rattle.std.specs.Prelude.{ℕ, ◌+◌, ◌≤◌, false, take, drop, ℤ, Result}
 use Rattle.std.proofs.Math.Path.{◌≡◌}
 use Rattle.paper.specs.Rows.{is_zero}
 use Rattle.paper.specs.Demand.{nodes_used}
 use Rattle.paper.specs.Calls.{Db, After}
 use Rattle.paper.specs.declared.Counters.{Counters}
 use Rattle.paper.specs.declared.Demanded.{Demanded}
-use Rattle.paper.specs.declared.Demanded.TheVariants.{Given}
 use Rattle.facts.specs.Carry.{moved}
 use Rattle.facts.specs.Taken.{Taken}
 use Rattle.facts.specs.Ran.{Ran}
 
-pub record GivenBack (r : Demanded) : Type 0 where
+pub record GivenBack (r : Result Demanded Refusal) : Type 0 where
   pub literal : ℤ
   pub counters : Counters
-  pub is : r ≡ Given literal counters
+  pub is : r ≡ gives literal counters
 
 -- From d to what a leaves, by a demand of node id that is done. Its literals: what was there stays and the new ones are next, .., next' - 1, each in one
 -- cell (`taken`); they are taken in the order of a list of cells (`run.order`)

@@ -1,4 +1,5 @@
 -- Laws of counts, lookups, ways to make a value, and jobs.
+use Rattle.std.specs.Prelude.{None, Option, Some}
 use mathlib.Core.Path.{◌≡◌, refl, sym, ap, ◌∙◌, subst}
 use mathlib.Core.Bool.{Bool, true, false, cond}
 use mathlib.Core.List.{List}
@@ -11,8 +12,6 @@ use lib.ListN.{get_or}
 use Rattle.paper.specs.Rows.{node_at, value_count, con_val}
 use Rattle.paper.specs.Weighted.{key_from, output_of, place_of, share_of, no_way, joined, way_two, job_of}
 use Rattle.paper.specs.declared.Node.{Node}
-use Rattle.paper.specs.declared.Found.{Found}
-use Rattle.paper.specs.declared.Found.TheVariants.{At, Absent}
 use Rattle.paper.specs.declared.Way.{Way}
 use Rattle.paper.specs.declared.Job.{Job}
 use Rattle.paper.specs.declared.Job.TheVariants.{Nothing, Count, Sum}
@@ -51,7 +50,7 @@ count_general n e = count_inner n (λ z. omega arith) (λ z. omega arith)
 -- ---- the search
 
 module _ (keys : List ℕ) (first v : ℕ) where
-  place_cond : (b : Bool) (a c : Found) (n : ℕ) → place_of a ≤ n → place_of c ≤ n → place_of (cond b a c) ≤ n
+  place_cond : (b : Bool) (a c : Option ℕ) (n : ℕ) → place_of a ≤ n → place_of c ≤ n → place_of (cond b a c) ≤ n
   place_cond true a c n p q = p
   place_cond false a c n p q = q
 
@@ -59,7 +58,7 @@ module _ (keys : List ℕ) (first v : ℕ) where
   unfolding key_from
   key_place zero k = omega arith
   key_place (suc n) k =
-      place_cond (eqb (get_or keys (first + k) 0) v) (At k) (key_from keys first v n (k + 1)) (k + suc n) (omega arith) (omega (arith, key_place n (k + 1)))
+      place_cond (eqb (get_or keys (first + k) 0) v) (Some k) (key_from keys first v n (k + 1)) (k + suc n) (omega arith) (omega (arith, key_place n (k + 1)))
 
 -- ---- outputs by value
 
@@ -68,15 +67,15 @@ module _ (keys : List ℕ) (n : Node) where
   unfolding output_of
   output_general q e = rw (eq-eqb n.kind 2 e)
 
-  pub output_zero : (q : ℕ) → (n.kind ≡ 2 → ⊥) → q ≡ 0 → output_of keys n q ≡ Absent
+  pub output_zero : (q : ℕ) → (n.kind ≡ 2 → ⊥) → q ≡ 0 → output_of keys n q ≡ None
   unfolding output_of
   output_zero q e z = rw (ne_eqb n.kind 2 e, eq-eqb q 0 z)
 
-  pub output_past : (q : ℕ) → (n.kind ≡ 2 → ⊥) → (q ≡ 0 → ⊥) → value_count n < q → output_of keys n q ≡ Absent
+  pub output_past : (q : ℕ) → (n.kind ≡ 2 → ⊥) → (q ≡ 0 → ⊥) → value_count n < q → output_of keys n q ≡ None
   unfolding output_of
   output_past q e z h = rw (ne_eqb n.kind 2 e, ne_eqb q 0 z, lt-ltb (value_count n) q h)
 
-  pub output_at : (q : ℕ) → (n.kind ≡ 2 → ⊥) → (q ≡ 0 → ⊥) → q ≤ value_count n → output_of keys n q ≡ At (q - 1)
+  pub output_at : (q : ℕ) → (n.kind ≡ 2 → ⊥) → (q ≡ 0 → ⊥) → q ≤ value_count n → output_of keys n q ≡ Some (q - 1)
   unfolding output_of
   output_at q e z h = rw (ne_eqb n.kind 2 e, ne_eqb q 0 z, le-ltb (value_count n) q h)
 
@@ -92,7 +91,7 @@ module _ (keys : List ℕ) (n : Node) where
       go (no e) (yes z) = rw (output_zero q e z) (omega arith)
       go (no e) (no z) = past e z (ltb (value_count n) q) refl
 
-  pub share_yes : (m v : ℕ) (f : Found) → v % m ≡ 0 → f ≡ output_of keys n (v / m) → place_of f ≡ share_of keys n m v
+  pub share_yes : (m v : ℕ) (f : Option ℕ) → v % m ≡ 0 → f ≡ output_of keys n (v / m) → place_of f ≡ share_of keys n m v
   unfolding share_of
   share_yes m v f e g = rw (eq-eqb (v % m) 0 e, ← g)
 

@@ -1,4 +1,5 @@
 -- The window of the left outputs: outside it there is no pair, so that a run may leave those turns out.
+use Rattle.std.specs.Prelude.{None, Option, Some}
 use mathlib.Core.Path.{◌≡◌, refl, sym, ap, ◌∙◌}
 use mathlib.Core.Bool.{Bool, true, false}
 use mathlib.Core.List.{List}
@@ -15,8 +16,6 @@ use Rattle.paper.specs.Plain.{St}
 use Rattle.paper.specs.Weighted.{output_of, share_of, no_way, joined, way_of, link_of, weigh}
 use Rattle.paper.specs.declared.Node.{Node}
 use Rattle.paper.specs.declared.Clause.{Clause}
-use Rattle.paper.specs.declared.Found.{Found}
-use Rattle.paper.specs.declared.Found.TheVariants.{At, Absent}
 use Rattle.paper.specs.declared.Span.{Span}
 use Rattle.paper.specs.declared.Way.{Way}
 use Rattle.keys.specs.Least.{largest_of}
@@ -54,16 +53,16 @@ module _ (keys : List ℕ) (n : Node) (s : Sorted keys n) where
   pub share_above : (m d : ℕ) → largest_of keys n m < d → share_of keys n m d ≡ 0
   share_above m d h = go (ℕ_discrete (d % m) 0)
     where
-      absent : d % m ≡ 0 → (f : Found) → Finds keys n (d / m) f → f ≡ Absent
-      absent e (At j) q =
+      absent : d % m ≡ 0 → (f : Option ℕ) → Finds keys n (d / m) f → f ≡ None
+      absent e (Some j) q =
           let top = last_most (con_len n) (con_val keys n m) (λ i k g b. times_upto m i k g b) j q.0 in
           let is : con_val keys n m j ≡ m * (d / m) = ap (λ (x : ℕ). m * x) q.1 in
           absurd (let z : ⊥ = omega (arith, top, is, mod-add-div d m) in z)
-      absent e Absent q = refl
+      absent e None q = refl
 
       go : Dec (d % m ≡ 0) → share_of keys n m d ≡ 0
       go (no e) = share_no keys n m d e
-      go (yes e) = sym (share_yes keys n m d Absent e (sym (absent e (output_of keys n (d / m)) (finds keys n s.counted (d / m)))))
+      go (yes e) = sym (share_yes keys n m d None e (sym (absent e (output_of keys n (d / m)) (finds keys n s.counted (d / m)))))
 
 -- ---- a place to cut at
 

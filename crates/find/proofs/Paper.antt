@@ -1,5 +1,6 @@
 -- The definitions of the weighted run, read as the paper has them: what a lookup finds, the three parts of a step, and that a way that is none
 -- does nothing.
+use Rattle.std.specs.Prelude.{None, Option, Some}
 use mathlib.Core.Path.{◌≡◌, refl, sym, ap, ap₂, ◌∙◌}
 use mathlib.Core.Bool.{Bool, true, false, cond}
 use mathlib.Core.List.{List}
@@ -16,8 +17,6 @@ use Rattle.paper.specs.Plain.{St}
 use Rattle.paper.specs.Weighted.{key_from, output_of, share_of, no_way, way_of, turns_of, job_of, emit_way, clause_at, link_of, links_of, do_of, weigh}
 use Rattle.paper.specs.declared.Node.{Node}
 use Rattle.paper.specs.declared.Clause.{Clause}
-use Rattle.paper.specs.declared.Found.{Found}
-use Rattle.paper.specs.declared.Found.TheVariants.{At, Absent}
 use Rattle.paper.specs.declared.Way.{Way}
 use Rattle.find.specs.Ways.{Rising}
 use Rattle.find.proofs.Laws.{count_leaf, count_general, output_general, output_zero, output_past, output_at, way_left, way_right}
@@ -25,13 +24,13 @@ use Rattle.find.proofs.Laws.{count_leaf, count_general, output_general, output_z
 -- ---- what a lookup finds
 
 -- what is known of a search of n keys from k on
-abbrev Sought : List ℕ → ℕ → ℕ → ℕ → ℕ → Found → Type 0
-Sought keys first v n k (At j) = (j < k + n) × (get_or keys (first + j) 0 ≡ v)
-Sought keys first v n k Absent = (j : ℕ) → k ≤ j → j < k + n → get_or keys (first + j) 0 ≡ v → ⊥
+abbrev Sought : List ℕ → ℕ → ℕ → ℕ → ℕ → Option ℕ → Type 0
+Sought keys first v n k (Some j) = (j < k + n) × (get_or keys (first + j) 0 ≡ v)
+Sought keys first v n k None = (j : ℕ) → k ≤ j → j < k + n → get_or keys (first + j) 0 ≡ v → ⊥
 
-sought_step : (keys : List ℕ) (first v n k : ℕ) (f : Found) → (get_or keys (first + k) 0 ≡ v → ⊥) → Sought keys first v n (k + 1) f → Sought keys first v (suc n) k f
-sought_step keys first v n k (At j) e s = let a = s.0 in (omega arith, s.1)
-sought_step keys first v n k Absent e s = λ j a b h. go j a b h (ℕ_discrete j k)
+sought_step : (keys : List ℕ) (first v n k : ℕ) (f : Option ℕ) → (get_or keys (first + k) 0 ≡ v → ⊥) → Sought keys first v n (k + 1) f → Sought keys first v (suc n) k f
+sought_step keys first v n k (Some j) e s = let a = s.0 in (omega arith, s.1)
+sought_step keys first v n k None e s = λ j a b h. go j a b h (ℕ_discrete j k)
   where
     go : (j : ℕ) → k ≤ j → j < k + suc n → get_or keys (first + j) 0 ≡ v → Dec (j ≡ k) → ⊥
     go j a b h (yes x) = e (ap (λ (i : ℕ). get_or keys (first + i) 0) (sym x) ∙ h)
@@ -42,7 +41,7 @@ unfolding key_from
 sought keys first v zero k = λ j a b h. let z : ⊥ = omega arith in z
 sought keys first v (suc n) k = go (eqb (get_or keys (first + k) 0) v) refl (sought keys first v n (k + 1))
   where
-    go : (b : Bool) → eqb (get_or keys (first + k) 0) v ≡ b → Sought keys first v n (k + 1) (key_from keys first v n (k + 1)) → Sought keys first v (suc n) k (cond b (At k) (key_from keys first v n (k + 1)))
+    go : (b : Bool) → eqb (get_or keys (first + k) 0) v ≡ b → Sought keys first v n (k + 1) (key_from keys first v n (k + 1)) → Sought keys first v (suc n) k (cond b (Some k) (key_from keys first v n (k + 1)))
     go true e s = (omega arith, eqb-true _ _ e)
     go false e s = sought_step keys first v n k (key_from keys first v n (k + 1)) (eqb-false _ _ e) s
 
@@ -53,12 +52,12 @@ above a b h e = omega arith
 
 module _ (keys : List ℕ) (first v count : ℕ) where
   -- nothing is found where no key is v
-  pub key_none : ((i : ℕ) → i < count → get_or keys (first + i) 0 ≡ v → ⊥) → Absent ≡ key_from keys first v count 0
+  pub key_none : ((i : ℕ) → i < count → get_or keys (first + i) 0 ≡ v → ⊥) → None ≡ key_from keys first v count 0
   key_none none = go (key_from keys first v count 0) (sought keys first v count 0)
     where
-      go : (f : Found) → Sought keys first v count 0 f → Absent ≡ f
-      go (At i) s = let a = s.0 in absurd (none i (omega arith) s.1)
-      go Absent s = refl
+      go : (f : Option ℕ) → Sought keys first v count 0 f → None ≡ f
+      go (Some i) s = let a = s.0 in absurd (none i (omega arith) s.1)
+      go None s = refl
 
   -- .. which none is, if each is below or above it
   pub none_left : (lo hi : ℕ) → hi ≤ lo → ((i : ℕ) → i < lo → get_or keys (first + i) 0 < v) → ((i : ℕ) → hi ≤ i → i < count → v < get_or keys (first + i) 0)
@@ -71,7 +70,7 @@ module _ (keys : List ℕ) (first v count : ℕ) where
 
   module _ (r : Rising keys first count) (j : ℕ) (h : j < count) where
     -- in keys that ascend, a key that is v is the one found
-    pub key_is : get_or keys (first + j) 0 ≡ v → At j ≡ key_from keys first v count 0
+    pub key_is : get_or keys (first + j) 0 ≡ v → Some j ≡ key_from keys first v count 0
     key_is e = go (key_from keys first v count 0) (sought keys first v count 0)
       where
         same : (i : ℕ) → i < count → get_or keys (first + i) 0 ≡ v → (a b : Bool) → ltb i j ≡ a → ltb j i ≡ b → j ≡ i
@@ -79,9 +78,9 @@ module _ (keys : List ℕ) (first v count : ℕ) where
         same i l q false true x y = absurd (let z : ⊥ = omega (arith, r.rise j i (ltb-true j i y) l) in z)
         same i l q false false x y = omega (arith, ltb-false i j x, ltb-false j i y)
 
-        go : (f : Found) → Sought keys first v count 0 f → At j ≡ f
-        go (At i) s = let a = s.0 in ap At (same i (omega arith) s.1 (ltb i j) (ltb j i) refl refl)
-        go Absent s = absurd (s j (omega arith) (omega arith) e)
+        go : (f : Option ℕ) → Sought keys first v count 0 f → Some j ≡ f
+        go (Some i) s = let a = s.0 in ap Some (same i (omega arith) s.1 (ltb i j) (ltb j i) refl refl)
+        go None s = absurd (s j (omega arith) (omega arith) e)
 
     -- below a key that is below v all are, and above one that is above v
     pub key_below : get_or keys (first + j) 0 < v → (i : ℕ) → i < j + 1 → get_or keys (first + i) 0 < v
@@ -101,16 +100,16 @@ module _ (keys : List ℕ) (first v count : ℕ) where
 -- ---- the outputs by value
 
 -- an output of value v, or none has it
-abbrev pub Finds : List ℕ → Node → ℕ → Found → Type 0
-Finds keys n v (At j) = (j < value_count n) × (value_at keys n j ≡ v)
-Finds keys n v Absent = (j : ℕ) → j < value_count n → value_at keys n j ≡ v → ⊥
+abbrev pub Finds : List ℕ → Node → ℕ → Option ℕ → Type 0
+Finds keys n v (Some j) = (j < value_count n) × (value_at keys n j ≡ v)
+Finds keys n v None = (j : ℕ) → j < value_count n → value_at keys n j ≡ v → ⊥
 
-finds_general : (keys : List ℕ) (n : Node) (v : ℕ) (f : Found) → n.kind ≡ 2 → Sought keys n.first v n.count 0 f → Finds keys n v f
+finds_general : (keys : List ℕ) (n : Node) (v : ℕ) (f : Option ℕ) → n.kind ≡ 2 → Sought keys n.first v n.count 0 f → Finds keys n v f
 unfolding value_at
-finds_general keys n v (At j) e s =
+finds_general keys n v (Some j) e s =
     let a = s.0 in
     (omega (arith, count_general n e), rw (ne_eqb n.kind 0 (λ z. omega arith)) s.1)
-finds_general keys n v Absent e s = λ j h q. s j (omega arith) (omega (arith, count_general n e)) (rw (ne_eqb n.kind 0 (λ z. omega arith)) at q)
+finds_general keys n v None e s = λ j h q. s j (omega arith) (omega (arith, count_general n e)) (rw (ne_eqb n.kind 0 (λ z. omega arith)) at q)
 
 -- a leaf's value is 1, and a unit's are 1, 2, .., as the table check has it
 pub value_counts : (keys : List ℕ) (n : Node) → ((n.kind ≡ 0 → ⊥) → (i : ℕ) → i < value_count n → word_from keys n.first i ≡ i + 1) → (j : ℕ) → j < value_count n → value_at keys n j ≡ j + 1

@@ -8,12 +8,12 @@ ghost use Rattle.paper.specs.Weighted.{key_from, output_of, share_of, joined, wa
 ghost use Rattle.find.specs.Ways.{Rising, Sorted, Muls, Place, Cut, Pairing};
 
 use keys::largest;
-use paper::{Found, Job, Node, Span, Way};
+use paper::{Job, Node, Span, Way};
 use rows::{con_len, node_at, value_at, value_count, word_from};
 
 // "search the keys for v": the place of v among count keys behind first. The keys ascend, so that each step halves what is left: those
 // before lo are below v, and those from hi on above it.
-pub fn find_key(keys: &[u32], first: usize, count: usize, v: usize) -> Found
+pub fn find_key(keys: &[u32], first: usize, count: usize, v: usize) -> Option<usize>
     requires { Rising keys.now first count }
     ensures { result ≡ key_from keys.now first v count 0 }
 {
@@ -23,7 +23,7 @@ pub fn find_key(keys: &[u32], first: usize, count: usize, v: usize) -> Found
         let mid = lo + (hi - lo) / 2;
         let key = word_from(keys, first, mid);
         if key == v {
-            return Found::At(mid);
+            return Some(mid);
         }
         if key < v {
             lo = mid + 1;
@@ -31,11 +31,11 @@ pub fn find_key(keys: &[u32], first: usize, count: usize, v: usize) -> Found
             hi = mid;
         }
     }
-    Found::Absent
+    None
 }
 
 // The output of value v: a leaf and a unit have the values from 1 on, a general node its keys.
-pub fn output_of(keys: &[u32], n: Node, v: usize) -> Found
+pub fn output_of(keys: &[u32], n: Node, v: usize) -> Option<usize>
     requires { Sorted keys.now n }
     ensures { result ≡ output_of keys.now n v }
 {
@@ -43,12 +43,12 @@ pub fn output_of(keys: &[u32], n: Node, v: usize) -> Found
         return find_key(keys, n.first, n.count, v);
     }
     if v == 0 {
-        return Found::Absent;
+        return None;
     }
     if value_count(n) < v {
-        return Found::Absent;
+        return None;
     }
-    Found::At(v - 1)
+    Some(v - 1)
 }
 
 // The place, counted from 1, of the output that times m is v; 0 where there is none.
@@ -58,7 +58,7 @@ pub fn share_of(keys: &[u32], n: Node, m: usize, v: usize) -> usize
     ensures { result ≡ share_of keys.now n m v }
 {
     if v % m == 0 {
-        let Found::At(j) = output_of(keys, n, v / m) else {
+        let Some(j) = output_of(keys, n, v / m) else {
             return 0;
         };
         return j + 1;

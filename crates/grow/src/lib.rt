@@ -8,13 +8,13 @@ ghost use Rattle.grow.specs.Small.{Small};
 
 pub use choose::room_for_node;
 use choose::{dummy_plan, leaf_plan};
-use paper::{Added, Begun, Choice, Counters, NODE_WORDS, Node, Refusal};
+use paper::{Added, Counters, NODE_WORDS, Node, Refusal};
 
-pub fn fresh(first: usize, last: usize) -> Begun
+pub fn fresh(first: usize, last: usize) -> Result<Counters, Refusal>
     ensures { result ≡ fresh_of first last }
 {
     if table::range_ok(first, first, last) {
-        Begun::Made(Counters {
+        Ok(Counters {
             first,
             next: first,
             last,
@@ -24,7 +24,7 @@ pub fn fresh(first: usize, last: usize) -> Begun
             words: 0,
         })
     } else {
-        Begun::NotMade(Refusal::BadVariables)
+        Err(Refusal::BadVariables)
     }
 }
 
@@ -82,34 +82,25 @@ pub fn leaf(
     clauses: usize,
     c: Counters,
     x: i32,
-) -> Added
+) -> Result<Added, Refusal>
     ensures { (result ≡ leaf_added (leaf_plan nodes.old inputs.old keys.now lits.now marks.now clauses c x) c)
         × (nodes.new ≡ leaf_nodes (leaf_plan nodes.old inputs.old keys.now lits.now marks.now clauses c x) nodes.old c)
         × (inputs.new ≡ leaf_inputs (leaf_plan nodes.old inputs.old keys.now lits.now marks.now clauses c x) inputs.old c x) }
 {
-    let p = leaf_plan(nodes, inputs, keys, lits, marks, clauses, c, x);
-    match p {
-        Choice::Old(id) => Added::Done(id, c),
-        Choice::No(why) => Added::Refused(why),
-        Choice::New => {
-            let place = c.inputs;
-            let id = c.nodes;
-            inputs[place] = x;
-            put_node(nodes, id, leaf_node(place));
-            Added::Done(
-                id,
-                Counters {
-                    first: c.first,
-                    next: c.next,
-                    last: c.last,
-                    nodes: id + 1,
-                    inputs: place + 1,
-                    cells: c.cells,
-                    words: c.words,
-                },
-            )
-        }
+    let plan = leaf_plan(nodes, inputs, keys, lits, marks, clauses, c, x)?;
+    if let Some(id) = plan {
+        return Ok(Added { id, counters: c });
     }
+    inputs[c.inputs] = x;
+    put_node(nodes, c.nodes, leaf_node(c.inputs));
+    Ok(Added {
+        id: c.nodes,
+        counters: Counters {
+            nodes: c.nodes + 1,
+            inputs: c.inputs + 1,
+            ..c
+        },
+    })
 }
 
 pub fn dummy(
@@ -120,29 +111,20 @@ pub fn dummy(
     marks: &[u8],
     clauses: usize,
     c: Counters,
-) -> Added
+) -> Result<Added, Refusal>
     ensures { (result ≡ dummy_added (dummy_plan nodes.old inputs.now keys.now lits.now marks.now clauses c) c)
         × (nodes.new ≡ dummy_nodes (dummy_plan nodes.old inputs.now keys.now lits.now marks.now clauses c) nodes.old c) }
 {
-    let p = dummy_plan(nodes, inputs, keys, lits, marks, clauses, c);
-    match p {
-        Choice::Old(id) => Added::Done(id, c),
-        Choice::No(why) => Added::Refused(why),
-        Choice::New => {
-            let id = c.nodes;
-            put_node(nodes, id, dummy_node());
-            Added::Done(
-                id,
-                Counters {
-                    first: c.first,
-                    next: c.next,
-                    last: c.last,
-                    nodes: id + 1,
-                    inputs: c.inputs,
-                    cells: c.cells,
-                    words: c.words,
-                },
-            )
-        }
+    let plan = dummy_plan(nodes, inputs, keys, lits, marks, clauses, c)?;
+    if let Some(id) = plan {
+        return Ok(Added { id, counters: c });
     }
+    put_node(nodes, c.nodes, dummy_node());
+    Ok(Added {
+        id: c.nodes,
+        counters: Counters {
+            nodes: c.nodes + 1,
+            ..c
+        },
+    })
 }

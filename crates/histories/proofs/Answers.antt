@@ -1,6 +1,6 @@
 -- What a done demand leaves: the output that was asked for has the marks, and the answer is its literal.
 use Rattle.std.specs.Prelude.{◌≡◌, refl, true, List, ◌++◌, ℕ, suc, ◌+◌, ◌<◌, ◌≤◌, ℤ, pos, length, get_or, drop, eqb, ltb}
-use Rattle.std.proofs.Common.{sym, ◌∙◌, ap, subst, inl, inr, add-one, arith, ltb-true}
+use Rattle.std.proofs.Common.{sym, ◌∙◌, ap, subst, inl, inr, add-one, arith, ltb-true, None, Option, Result, Some}
 use Rattle.std.proofs.Math.Bool.{Bool, false}
 use Rattle.std.proofs.lemmas.Bool.{false≢true}
 use Rattle.std.proofs.Math.ListN.{get_or-append}
@@ -18,8 +18,6 @@ use Rattle.paper.specs.declared.Semantics.{Semantics}
 use Rattle.paper.specs.declared.Refusal.{Refusal}
 use Rattle.paper.specs.declared.Refusal.TheVariants.{NoSuchOutput, TableFails, WorkShort, NoSuchNode, GeneralNode, BadLiteral, BadMultiplier, NoValue, KeyTooLarge, TooDeep, NoRoom, VariablesOut, ClausesShort, BadAssignment, BadVariables}
 use Rattle.paper.specs.declared.Demanded.{Demanded}
-use Rattle.paper.specs.declared.Found.{Found}
-use Rattle.paper.specs.declared.Found.TheVariants.{At, Absent}
 use Rattle.facts.proofs.Facts.{used_at}
 use Rattle.meaning.specs.Base.{AtPrev}
 use Rattle.meaning.specs.Table.{Kind, leaf, dummy, unit, general, Dir, If, OnlyIf, done_of, Done, Inner, History}
@@ -134,7 +132,7 @@ module _ (d : Db) (h : History) (u : Upheld d h) where
       z : ℤ
       z = lit_at (con_lits (nodes_used d.nodes c) (inputs_used d.inputs c) p.lits n) i
 
-      go : {r : Demanded} → Went (ltb n c.nodes) (is_general (node_at d.nodes n)) (ltb i (value_count (node_at d.nodes n))) p c (length d.clauses) z r
+      go : {r : Result Demanded Refusal} → Went (ltb n c.nodes) (is_general (node_at d.nodes n)) (ltb i (value_count (node_at d.nodes n))) p c (length d.clauses) z r
           → (demanded_said r c).number ≡ 0 → Answered (demanded_db d r p) n i (demanded_said r c).value (want_of m)
       go (stayed why) e = absurd (why_some why e)
       go (ran a b e f) q =
@@ -150,7 +148,7 @@ module _ (d : Db) (h : History) (u : Upheld d h) where
   weighted_answers w n v kind =
       go (went table work (ltb n c.nodes) false (is_at place) p c (length d.clauses) z)
     where
-      place : Found
+      place : Option ℕ
       place = sum_place d.nodes d.keys c n v
 
       table : Bool
@@ -172,9 +170,9 @@ module _ (d : Db) (h : History) (u : Upheld d h) where
           by_kind (inl e) = count_is d.nodes n ((fit_of d u.passes).kinds n s) unit (ap kind_of e)
           by_kind (inr e) = count_is d.nodes n ((fit_of d u.passes).kinds n s) general (ap kind_of e)
 
-      at : n < c.nodes → (f : Found) → place ≡ f → is_at f ≡ true → Finds (key_of (used d h u) n) (value_count (node_at (ns d h u) n)) v f → Weighed d (ran_db d p) n v z
-      at s Absent e t b = absurd (false≢true t)
-      at s (At q) e t b =
+      at : n < c.nodes → (f : Option ℕ) → place ≡ f → is_at f ≡ true → Finds (key_of (used d h u) n) (value_count (node_at (ns d h u) n)) v f → Weighed d (ran_db d p) n v z
+      at s None e t b = absurd (false≢true t)
+      at s (Some q) e t b =
           let node = node_here d h u n s in
           let hq : q < value_count (node_at d.nodes n) = subst (λ (x : Node). q < value_count x) node b.0 in
           let low = (fit_of d u.passes).room.fits n q s hq (inner_kind d n kind) in
@@ -194,7 +192,7 @@ module _ (d : Db) (h : History) (u : Upheld d h) where
             answered = subst (λ (i : ℕ). Answered (ran_db d p) n q (lit_at (con_lits (nodes_used d.nodes c) (inputs_used d.inputs c) p.lits n) i) just_if) (sym (ap index_of e)) an;
           }
 
-      go : {r : Demanded} → Went (ltb n c.nodes) false (is_at place) p c (length d.clauses) z r
+      go : {r : Result Demanded Refusal} → Went (ltb n c.nodes) false (is_at place) p c (length d.clauses) z r
           → (demanded_said r c).number ≡ 0 → Weighed d (demanded_db d r p) n v (demanded_said r c).value
       go (stayed why) e = absurd (why_some why e)
       go (ran a b e f) q =

@@ -1,6 +1,6 @@
 -- DEMAND 3, for every history of public calls: what the clauses mean, that they forbid no assignment of the inputs; capping; propagation.
 use Rattle.std.specs.Prelude.{◌≡◌, refl, Bool, true, false, not, cond, ◌⊎◌, ◌↔◌, ℕ, zero, suc, ◌+◌, ◌-◌, ◌<◌, ◌≤◌, ℤ, pos, neg_ℤ, nat_abs, length, get_or, ltb}
-use Rattle.std.proofs.Common.{sym, ◌∙◌, ap, subst, true≢false, inl, inr, arith, eqb-true}
+use Rattle.std.proofs.Common.{sym, ◌∙◌, ap, subst, true≢false, inl, inr, arith, eqb-true, Err, Ok}
 use mathlib.Core.List.{List, [], Memᴰ}
 use Rattle.std.proofs.Math.Decide.{dec_le}
 use Rattle.paper.specs.Rows.{node_at, value_count}
@@ -11,7 +11,6 @@ use Rattle.paper.specs.Numbers.{valued_said}
 use Rattle.paper.specs.Calls.{Db, Call, Work, unweighted, weighted, value, checked, value_call, step}
 use Rattle.paper.specs.declared.Semantics.{Semantics}
 use Rattle.paper.specs.declared.Refusal.TheVariants.{TableFails, WorkShort, NoSuchNode, BadAssignment}
-use Rattle.paper.specs.declared.Valued.TheVariants.{Worth, NotValued}
 use Rattle.meaning.specs.Base.{litv}
 use Rattle.meaning.proofs.Base.{bool_cases}
 use Rattle.meaning.specs.Table.{Kind, leaf, dummy, unit, general, If, OnlyIf, lit_of, lit, held_of, Held, NotGeneral, Inner, UnitOk, NodeOk, History, AllSat, Values, key_at}
@@ -292,8 +291,8 @@ value_answers d wk n a =
     v = value_of (n + 1) d.nodes d.inputs a n
 
     go : (t b h o : Bool)
-        → (valued_said (cond t (cond b (cond h (cond o (Worth v) (NotValued BadAssignment)) (NotValued NoSuchNode)) (NotValued WorkShort)) (NotValued TableFails)) d.counters).number ≡ 0
-        → (valued_said (cond t (cond b (cond h (cond o (Worth v) (NotValued BadAssignment)) (NotValued NoSuchNode)) (NotValued WorkShort)) (NotValued TableFails)) d.counters).value ≡ pos (sum d (assigned a) n)
+        → (valued_said (cond t (cond b (cond h (cond o (Ok v) (Err BadAssignment)) (Err NoSuchNode)) (Err WorkShort)) (Err TableFails)) d.counters).number ≡ 0
+        → (valued_said (cond t (cond b (cond h (cond o (Ok v) (Err BadAssignment)) (Err NoSuchNode)) (Err WorkShort)) (Err TableFails)) d.counters).value ≡ pos (sum d (assigned a) n)
     go false b h o e = absurd (let z : ⊥ = omega arith in z)
     go true false h o e = absurd (let z : ⊥ = omega arith in z)
     go true true false o e = absurd (let z : ⊥ = omega arith in z)

@@ -1,7 +1,9 @@
 -- Demands, reserve, reset and emptying keep what is upheld; the clauses afterwards are those before and the ones appended.
+use Rattle.paper.specs.Answers.{gives}
+use Rattle.paper.specs.declared.Refusal.{Refusal}
 use Rattle.std.specs.Prelude.{◌≡◌, cond, List, ℕ, ◌+◌, ◌<◌, ◌≤◌, ℤ, length, get_or, replicate, leb, ltb}
 use Rattle.std.proofs.Math.Path.{refl}
-use Rattle.std.proofs.Common.{sym, ◌∙◌, ap, subst, true≢false, inl, zero-add, arith, leb-true, ltb-true}
+use Rattle.std.proofs.Common.{sym, ◌∙◌, ap, subst, true≢false, inl, zero-add, arith, leb-true, ltb-true, Err, Ok, Result}
 use Rattle.std.proofs.Math.Bool.{Bool, true, false}
 use Rattle.std.proofs.lemmas.List.{length-replicate, get_or-replicate}
 use Rattle.paper.specs.Rows.{node_at, value_count, is_general}
@@ -16,9 +18,6 @@ use Rattle.paper.specs.declared.Counters.{Counters}
 use Rattle.paper.specs.declared.Semantics.{Semantics}
 use Rattle.paper.specs.declared.Refusal.TheVariants.{TableFails, WorkShort, NoSuchNode, GeneralNode, NoSuchOutput, VariablesOut, ClausesShort}
 use Rattle.paper.specs.declared.Demanded.{Demanded}
-use Rattle.paper.specs.declared.Demanded.TheVariants.{Given, NotGiven}
-use Rattle.paper.specs.declared.Kept.{Kept}
-use Rattle.paper.specs.declared.Kept.TheVariants.{Did, DidNot}
 use Rattle.facts.proofs.Pastes.{paste_at}
 use Rattle.facts.specs.Taken.{InOrder}
 use Rattle.facts.proofs.Taken.{give_order}
@@ -46,7 +45,7 @@ went true true true true output p c len z = stayed GeneralNode
 went true true true false false p c len z = stayed NoSuchOutput
 went true true true false true p c len z = go (leb p.next (c.last + 1)) (leb (c.words + length p.out) len) refl
   where
-    go : (a b : Bool) → leb (c.words + length p.out) len ≡ b → Went true false true p c len z (cond a (cond b (Given z (ran_counters p c)) (NotGiven ClausesShort)) (NotGiven VariablesOut))
+    go : (a b : Bool) → leb (c.words + length p.out) len ≡ b → Went true false true p c len z (cond a (cond b (gives z (ran_counters p c)) (Err ClausesShort)) (Err VariablesOut))
     go false b e = stayed VariablesOut
     go true false e = stayed ClausesShort
     go true true e = ran refl refl refl (leb-true _ _ e)
@@ -72,7 +71,7 @@ module _ (d : Db) (h : History) (u : Upheld d h) where
       z : ℤ
       z = lit_at (Rattle.paper.specs.Rows.con_lits (Rattle.paper.specs.Demand.nodes_used d.nodes c) (Rattle.paper.specs.Demand.inputs_used d.inputs c) p.lits id) i
 
-      go : {r : Demanded} → Went (ltb id c.nodes) (is_general (node_at d.nodes id)) (ltb i (value_count (node_at d.nodes id))) p c (length d.clauses) z r
+      go : {r : Result Demanded Refusal} → Went (ltb id c.nodes) (is_general (node_at d.nodes id)) (ltb i (value_count (node_at d.nodes id))) p c (length d.clauses) z r
           → checked (demanded_db d r p) ≡ true → Moved d (demanded_db d r p) h false
       go (stayed why) ok = moved_none d h u false
       go (ran a b e f) ok =
@@ -103,7 +102,7 @@ module _ (d : Db) (h : History) (u : Upheld d h) where
       y : ℕ
       y = place_of (sum_place d.nodes d.keys c id v)
 
-      go : {r : Demanded} → Went (ltb id c.nodes) false (is_at (sum_place d.nodes d.keys c id v)) p c (length d.clauses) z r
+      go : {r : Result Demanded Refusal} → Went (ltb id c.nodes) false (is_at (sum_place d.nodes d.keys c id v)) p c (length d.clauses) z r
           → checked (demanded_db d r p) ≡ true → Moved d (demanded_db d r p) h false
       go (stayed why) ok = moved_none d h u false
       go (ran a b e f) ok =
@@ -115,17 +114,17 @@ module _ (d : Db) (h : History) (u : Upheld d h) where
 
   -- ---- reserve, reset, emptying
 
-  abbrev kept_db : Kept → List ℤ → List ℕ → Db
+  abbrev kept_db : Result Counters Refusal → List ℤ → List ℕ → Db
   kept_db r lits marks =
       record { nodes = d.nodes; inputs = d.inputs; keys = d.keys; lits = lits; marks = marks; clauses = d.clauses; counters = (kept_said r c).counters }
 
-  abbrev reserved_db : Kept → List ℤ → Db
+  abbrev reserved_db : Result Counters Refusal → List ℤ → Db
   reserved_db r lits = kept_db r (kept_row r d.lits lits) d.marks
 
-  abbrev reset_db : Kept → Db
+  abbrev reset_db : Result Counters Refusal → Db
   reset_db r = kept_db r d.lits (kept_row r d.marks (cleared_marks d.marks c))
 
-  abbrev empty_db : Kept → Db
+  abbrev empty_db : Result Counters Refusal → Db
   empty_db r = kept_db r d.lits d.marks
 
   pub reserve_moves : (w : Work) (id : ℕ) → checked (step d (reserve w id)).db ≡ true → Moved d (step d (reserve w id)).db h false
@@ -153,7 +152,7 @@ module _ (d : Db) (h : History) (u : Upheld d h) where
       order : InOrder d.lits c.next s.lits s.next
       order = give_order ps (stock d.lits c.next)
 
-      stays : Stays d (reserved_db (Did (with_next c s.next)) s.lits) false
+      stays : Stays d (reserved_db (Ok (with_next c s.next)) s.lits) false
       stays =
           record {
             nodes_le = omega arith;
@@ -176,14 +175,14 @@ module _ (d : Db) (h : History) (u : Upheld d h) where
           (λ p m. places_cells d.nodes d.inputs d.keys c.nodes c.first c.cells ft σ gd.inv.shape (id + 1) id l p m)).good
 
       go : (a b e : Bool) → ltb id c.nodes ≡ e → (f : Bool)
-          → checked (reserved_db (cond a (cond b (cond e (cond f (Did (with_next c s.next)) (DidNot VariablesOut)) (DidNot NoSuchNode)) (DidNot WorkShort)) (DidNot TableFails)) s.lits) ≡ true
-          → Moved d (reserved_db (cond a (cond b (cond e (cond f (Did (with_next c s.next)) (DidNot VariablesOut)) (DidNot NoSuchNode)) (DidNot WorkShort)) (DidNot TableFails)) s.lits) h false
+          → checked (reserved_db (cond a (cond b (cond e (cond f (Ok (with_next c s.next)) (Err VariablesOut)) (Err NoSuchNode)) (Err WorkShort)) (Err TableFails)) s.lits) ≡ true
+          → Moved d (reserved_db (cond a (cond b (cond e (cond f (Ok (with_next c s.next)) (Err VariablesOut)) (Err NoSuchNode)) (Err WorkShort)) (Err TableFails)) s.lits) h false
       go false b e x f ok = moved_none d h u false
       go true false e x f ok = moved_none d h u false
       go true true false x f ok = moved_none d h u false
       go true true true x false ok = moved_none d h u false
       go true true true x true ok =
-          moved_same d (reserved_db (Did (with_next c s.next)) s.lits) h (record { passes = ok; inv = (good (ltb-true id c.nodes x)).inv }) (omega arith) false stays
+          moved_same d (reserved_db (Ok (with_next c s.next)) s.lits) h (record { passes = ok; inv = (good (ltb-true id c.nodes x)).inv }) (omega arith) false stays
 
   cleared : (j : ℕ) → j < c.cells → get_or (cleared_marks d.marks c) j 0 ≡ 0
   cleared j l =
@@ -196,13 +195,13 @@ module _ (d : Db) (h : History) (u : Upheld d h) where
   reset_moves = go (table_ok d.nodes d.inputs d.keys d.lits d.marks (length d.clauses) c)
     where
       after : Db
-      after = reset_db (Did c)
+      after = reset_db (Ok c)
 
       none : Inv (tab_of after) (marks_of after) h
       none = inv_reset (tab_of d) (marks_of d) (marks_of after) h u.inv (λ e. inl (λ n j s hj.
           mark_zero (kind_of (node_at d.nodes n).kind) e _ (λ i. cleared ((node_at d.nodes n).first + j) ((fit_of d u.passes).room.fits n j s hj i))))
 
-      go : (b : Bool) → checked (reset_db (cond b (Did c) (DidNot TableFails))) ≡ true → Moved d (reset_db (cond b (Did c) (DidNot TableFails))) h true
+      go : (b : Bool) → checked (reset_db (cond b (Ok c) (Err TableFails))) ≡ true → Moved d (reset_db (cond b (Ok c) (Err TableFails))) h true
       go true ok =
           moved_same d after h (record { passes = ok; inv = none }) (omega arith) true
           (record {
@@ -222,9 +221,9 @@ module _ (d : Db) (h : History) (u : Upheld d h) where
   unfolding step empty_call empty_of
   empty_moves = go (table_ok d.nodes d.inputs d.keys d.lits d.marks (length d.clauses) c)
     where
-      go : (b : Bool) → checked (empty_db (cond b (Did (emptied c)) (DidNot TableFails))) ≡ true → Moved d (empty_db (cond b (Did (emptied c)) (DidNot TableFails))) h false
+      go : (b : Bool) → checked (empty_db (cond b (Ok (emptied c)) (Err TableFails))) ≡ true → Moved d (empty_db (cond b (Ok (emptied c)) (Err TableFails))) h false
       go true ok =
-          moved_same d (empty_db (Did (emptied c))) h (record { passes = ok; inv = u.inv }) (omega arith) false
+          moved_same d (empty_db (Ok (emptied c))) h (record { passes = ok; inv = u.inv }) (omega arith) false
           (record {
             nodes_le = omega arith;
             cells_le = omega arith;

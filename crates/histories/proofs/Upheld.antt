@@ -1,7 +1,7 @@
 -- What is true of a table and of all clauses appended since its fresh call; and that the demands' runs, which go over the parts in use, keep it.
 use Rattle.std.specs.Prelude.{◌≡◌, refl, Bool, true, false, List, [], ◌++◌, ℕ, ◌+◌, ◌-◌, ◌/◌, ◌<◌, ◌≤◌, ℤ, pos, length, take, drop}
 use Rattle.std.proofs.Math.Path.{sym, ap, subst}
-use Rattle.std.proofs.Common.{◌∙◌, append_assoc, append-nil, arith, length-append, take_at, drop_at, length-take-le}
+use Rattle.std.proofs.Common.{◌∙◌, append_assoc, append-nil, arith, length-append, take_at, drop_at, length-take-le, None, Option, Some}
 use Rattle.std.proofs.Math.ListN.{get_or-append}
 use Rattle.std.proofs.lemmas.List.Edits.{sets, sets-eq}
 use Rattle.paper.specs.Limits.{node_words}
@@ -12,8 +12,6 @@ use Rattle.paper.specs.Demand.{nodes_used, inputs_used, cells_used, cells_back, 
 use Rattle.paper.specs.Calls.{Db, checked, appended}
 use Rattle.paper.specs.declared.Counters.{Counters}
 use Rattle.paper.specs.declared.Want.{Want}
-use Rattle.paper.specs.declared.Found.{Found}
-use Rattle.paper.specs.declared.Found.TheVariants.{At, Absent}
 use Rattle.facts.specs.Facts.{TableFacts}
 use Rattle.facts.proofs.Facts.{table_facts, leaf_low, node_used, used_at, used_length}
 use Rattle.facts.proofs.Carry.{used_facts}
@@ -222,6 +220,6 @@ module _ (d : Db) (h : History) (u : Upheld d h) where
       let a = output_finds ns ins keys c.nodes c.first c.cells used_fit used_sharp (begin h) used_good.inv.shape id s v in
       go (output_of keys (node_at d.nodes id) v) (rw e at a)
     where
-      go : (f : Found) → Rattle.meaning.specs.Ways.Finds (Rattle.meaning.specs.View.key_of used id) (value_count (node_at d.nodes id)) v f → place_of f ≤ value_count (node_at d.nodes id)
-      go (At q) h = let x = h.0 in omega arith
-      go Absent h = omega arith
+      go : (f : Option ℕ) → Rattle.meaning.specs.Ways.Finds (Rattle.meaning.specs.View.key_of used id) (value_count (node_at d.nodes id)) v f → place_of f ≤ value_count (node_at d.nodes id)
+      go (Some q) h = let x = h.0 in omega arith
+      go None h = omega arith

@@ -9,7 +9,7 @@ ghost use Rattle.paper.specs.Join.{count_up, inner_plan, inner_added, inner_node
 ghost use Rattle.join_plan.specs.Ready.{RowReady};
 
 use join_plan::inner_plan;
-use paper::{Added, Counters, Node, Pair, Planned};
+use paper::{Added, Counters, Node, Pair, Refusal};
 
 fn write_count(keys: &mut [u32], at: usize, count: usize)
     requires { (at + count ≤ length keys.old) × (count ≤ cell_limit) }
@@ -70,36 +70,24 @@ pub fn inner(
     clauses: usize,
     c: Counters,
     j: Pair,
-) -> Added
+) -> Result<Added, Refusal>
     ensures { (result ≡ inner_added (inner_plan nodes.old inputs.now keys.old lits.old marks.old clauses c j) c)
         × (nodes.new ≡ inner_nodes (inner_plan nodes.old inputs.now keys.old lits.old marks.old clauses c j) nodes.old c)
         × (keys.new ≡ inner_keys (inner_plan nodes.old inputs.now keys.old lits.old marks.old clauses c j) nodes.old keys.old)
         × (lits.new ≡ inner_lits (inner_plan nodes.old inputs.now keys.old lits.old marks.old clauses c j) lits.old)
         × (marks.new ≡ inner_marks (inner_plan nodes.old inputs.now keys.old lits.old marks.old clauses c j) marks.old) }
 {
-    let p = inner_plan(nodes, inputs, keys, lits, marks, clauses, c, j);
-    match p {
-        Planned::Reject(why) => Added::Refused(why),
-        Planned::Make(n) => {
-            let first = n.first;
-            let count = n.count;
-            let id = c.nodes;
-            write_row(nodes, keys, n);
-            clear_lits(lits, first, count);
-            clear_marks(marks, first, count);
-            grow::put_node(nodes, id, n);
-            Added::Done(
-                id,
-                Counters {
-                    first: c.first,
-                    next: c.next,
-                    last: c.last,
-                    nodes: id + 1,
-                    inputs: c.inputs,
-                    cells: first + count,
-                    words: c.words,
-                },
-            )
-        }
-    }
+    let n = inner_plan(nodes, inputs, keys, lits, marks, clauses, c, j)?;
+    write_row(nodes, keys, n);
+    clear_lits(lits, n.first, n.count);
+    clear_marks(marks, n.first, n.count);
+    grow::put_node(nodes, c.nodes, n);
+    Ok(Added {
+        id: c.nodes,
+        counters: Counters {
+            nodes: c.nodes + 1,
+            cells: n.first + n.count,
+            ..c
+        },
+    })
 }

@@ -1,4 +1,6 @@
 -- The cases of the plan of an inner node, and what a node that is to be made rests on. Assumes nothing.
+use Rattle.paper.specs.declared.Refusal.{Refusal}
+use Rattle.std.specs.Prelude.{Err, Ok, Result}
 use Rattle.paper.specs.Limits.{node_limit, cell_limit, depth_limit, mul_limit, key_limit, node_words}
 use Prim.Native.Nat.{ℕ, zero, suc, ◌+◌, ◌-◌, ◌*◌, ◌/◌, ◌<◌, ◌≤◌, ◌^◌, max, min}
 use mathlib.Core.List.{List}
@@ -23,8 +25,6 @@ use Rattle.grow.proofs.Choose.{room_facts}
 use Rattle.paper.specs.declared.Refusal.TheVariants.{TableFails, NoSuchNode, BadMultiplier, NoValue, KeyTooLarge, TooDeep, NoRoom}
 use Rattle.paper.specs.declared.Pair.{Pair}
 use Rattle.paper.specs.declared.Sizes.{Sizes}
-use Rattle.paper.specs.declared.Planned.{Planned}
-use Rattle.paper.specs.declared.Planned.TheVariants.{Make, Reject}
 use Rattle.join_plan.specs.Ready.{RowReady}
 use Rattle.paper.specs.Join.{count_from, room_for, muls_ok, inner_node, fit_plan, unit_plan, within_limit, keys_plan, general_plan, plain_pair, join_plan, nodes_plan, inner_plan}
 
@@ -46,25 +46,25 @@ or_none false b h = (refl, h)
 
 -- depth, then room
 module _ (kind : ℕ) (j : Pair) (l r : Node) (c : Counters) (count : ℕ) (s : Sizes) where
-  pub fit_deep : depth_limit ≤ max l.depth r.depth → Reject TooDeep ≡ fit_plan kind j l r c count s
+  pub fit_deep : depth_limit ≤ max l.depth r.depth → Err TooDeep ≡ fit_plan kind j l r c count s
   unfolding fit_plan
   fit_deep h = rw (le-ltb (max l.depth r.depth) depth_limit h)
 
-  pub fit_makes : max l.depth r.depth < depth_limit → room_for c count s ≡ true → Make (inner_node kind j c.cells count (max l.depth r.depth + 1)) ≡ fit_plan kind j l r c count s
+  pub fit_makes : max l.depth r.depth < depth_limit → room_for c count s ≡ true → Ok (inner_node kind j c.cells count (max l.depth r.depth + 1)) ≡ fit_plan kind j l r c count s
   unfolding fit_plan
   fit_makes h g = rw (lt-ltb (max l.depth r.depth) depth_limit h, g)
 
-  pub fit_full : max l.depth r.depth < depth_limit → room_for c count s ≡ false → Reject NoRoom ≡ fit_plan kind j l r c count s
+  pub fit_full : max l.depth r.depth < depth_limit → room_for c count s ≡ false → Err NoRoom ≡ fit_plan kind j l r c count s
   unfolding fit_plan
   fit_full h g = rw (lt-ltb (max l.depth r.depth) depth_limit h, g)
 
-  pub fit_rests : (n : Node) → fit_plan kind j l r c count s ≡ Make n
+  pub fit_rests : (n : Node) → fit_plan kind j l r c count s ≡ Ok n
       → (max l.depth r.depth < depth_limit) × (room_for c count s ≡ true) × (inner_node kind j c.cells count (max l.depth r.depth + 1) ≡ n)
   unfolding fit_plan
   fit_rests n = go (ltb (max l.depth r.depth) depth_limit) refl (room_for c count s) refl
     where
       go : (t : Bool) → ltb (max l.depth r.depth) depth_limit ≡ t → (u : Bool) → room_for c count s ≡ u
-          → cond t (cond u (Make (inner_node kind j c.cells count (max l.depth r.depth + 1))) (Reject NoRoom)) (Reject TooDeep) ≡ Make n
+          → cond t (cond u (Ok (inner_node kind j c.cells count (max l.depth r.depth + 1))) (Err NoRoom)) (Err TooDeep) ≡ Ok n
           → (max l.depth r.depth < depth_limit) × (room_for c count s ≡ true) × (inner_node kind j c.cells count (max l.depth r.depth + 1) ≡ n)
       go true e true f q = (ltb-true _ _ e, f, cc)
       go true e false f q = absurd (let z : ◌≡◌ {A = ℕ} 0 1 = cc in omega arith)
@@ -108,11 +108,11 @@ fit_min j l r c n s f =
 
 -- keys: none, one too large, or the fit
 module _ (ks : List ℕ) (j : Pair) (l r : Node) (c : Counters) (s : Sizes) where
-  pub keys_none : length ks ≡ 0 → Reject NoValue ≡ keys_plan ks j l r c s
+  pub keys_none : length ks ≡ 0 → Err NoValue ≡ keys_plan ks j l r c s
   unfolding keys_plan
   keys_none h = rw (eq-eqb (length ks) 0 h)
 
-  pub keys_large : (length ks ≡ 0 → ⊥) → within_limit ks ≡ false → Reject KeyTooLarge ≡ keys_plan ks j l r c s
+  pub keys_large : (length ks ≡ 0 → ⊥) → within_limit ks ≡ false → Err KeyTooLarge ≡ keys_plan ks j l r c s
   unfolding keys_plan
   keys_large h g = rw (ne_eqb (length ks) 0 h, g)
 
@@ -120,26 +120,26 @@ module _ (ks : List ℕ) (j : Pair) (l r : Node) (c : Counters) (s : Sizes) wher
   unfolding keys_plan
   keys_fit h g = rw (ne_eqb (length ks) 0 h, g)
 
-  pub keys_rest : (n : Node) → keys_plan ks j l r c s ≡ Make n → (within_limit ks ≡ true) × (fit_plan 2 j l r c (length ks) s ≡ Make n)
+  pub keys_rest : (n : Node) → keys_plan ks j l r c s ≡ Ok n → (within_limit ks ≡ true) × (fit_plan 2 j l r c (length ks) s ≡ Ok n)
   unfolding keys_plan
   keys_rest n = go (eqb (length ks) 0) (within_limit ks) refl
     where
-      go : (t u : Bool) → within_limit ks ≡ u → cond t (Reject NoValue) (cond u (fit_plan 2 j l r c (length ks) s) (Reject KeyTooLarge)) ≡ Make n → (within_limit ks ≡ true) × (fit_plan 2 j l r c (length ks) s ≡ Make n)
+      go : (t u : Bool) → within_limit ks ≡ u → cond t (Err NoValue) (cond u (fit_plan 2 j l r c (length ks) s) (Err KeyTooLarge)) ≡ Ok n → (within_limit ks ≡ true) × (fit_plan 2 j l r c (length ks) s ≡ Ok n)
       go true u e q = absurd (let z : ◌≡◌ {A = ℕ} 0 1 = cc in omega arith)
       go false true e q = (e, q)
       go false false e q = absurd (let z : ◌≡◌ {A = ℕ} 0 1 = cc in omega arith)
 
 -- table, ids, multipliers, kind
-module _ (t m k u : Bool) (U G : Planned) where
-  pub plan_table : t ≡ false → Reject TableFails ≡ join_plan t m k u U G
+module _ (t m k u : Bool) (U G : Result Node Refusal) where
+  pub plan_table : t ≡ false → Err TableFails ≡ join_plan t m k u U G
   unfolding join_plan
   plan_table h = rw h
 
-  pub plan_missing : t ≡ true → m ≡ true → Reject NoSuchNode ≡ join_plan t m k u U G
+  pub plan_missing : t ≡ true → m ≡ true → Err NoSuchNode ≡ join_plan t m k u U G
   unfolding join_plan
   plan_missing h g = rw (h, g)
 
-  pub plan_muls : t ≡ true → m ≡ false → k ≡ false → Reject BadMultiplier ≡ join_plan t m k u U G
+  pub plan_muls : t ≡ true → m ≡ false → k ≡ false → Err BadMultiplier ≡ join_plan t m k u U G
   unfolding join_plan
   plan_muls h g e = rw (h, g, e)
 
@@ -151,8 +151,8 @@ module _ (t m k u : Bool) (U G : Planned) where
   unfolding join_plan
   plan_general h g e f = rw (h, g, e, f)
 
-pub plan_rests : (t m k u : Bool) (U G : Planned) (n : Node) → join_plan t m k u U G ≡ Make n
-    → (t ≡ true) × (m ≡ false) × (k ≡ true) × ((U ≡ Make n) ⊎ (G ≡ Make n))
+pub plan_rests : (t m k u : Bool) (U G : Result Node Refusal) (n : Node) → join_plan t m k u U G ≡ Ok n
+    → (t ≡ true) × (m ≡ false) × (k ≡ true) × ((U ≡ Ok n) ⊎ (G ≡ Ok n))
 unfolding join_plan
 plan_rests true false true true U G n q = (refl, refl, refl, inl q)
 plan_rests true false true false U G n q = (refl, refl, refl, inr q)
@@ -225,7 +225,7 @@ module _ (nodes : List ℕ) (inputs : List ℤ) (keys : List ℕ) (lits : List �
         };
       }
 
-  pub make_facts : (n : Node) → inner_plan nodes inputs keys lits marks clauses c j ≡ Make n → MakeFacts nodes keys lits marks c n
+  pub make_facts : (n : Node) → inner_plan nodes inputs keys lits marks clauses c j ≡ Ok n → MakeFacts nodes keys lits marks c n
   unfolding inner_plan
   make_facts n q =
       let p = plan_rests _ _ _ _ _ _ n q in
@@ -238,12 +238,12 @@ module _ (nodes : List ℕ) (inputs : List ℤ) (keys : List ℕ) (lits : List �
       let R = node_at nodes j.right in
       let ks = node_keys keys L j.lmul R j.rmul in
       ⊎_elim
-      (λ (e : unit_plan j L R c sizes ≡ Make n).
+      (λ (e : unit_plan j L R c sizes ≡ Ok n).
       let f = fit_rests 1 j L R c (con_len L + con_len R) sizes n e in
       subst (λ (n : Node). MakeFacts nodes keys lits marks c n) f.2
       (made t hl hr m 1 (con_len L + con_len R) (max L.depth R.depth) (omega arith) f.0 (room_is c _ sizes f.1)
       (λ z. absurd (eqb-false 1 1 z refl)) (λ z. absurd (eqb-false 1 1 z refl))))
-      (λ (e : general_plan keys j L R c sizes ≡ Make n).
+      (λ (e : general_plan keys j L R c sizes ≡ Ok n).
       let g = keys_rest ks j L R c sizes n e in
       let f = fit_rests 2 j L R c (length ks) sizes n g.1 in
       subst (λ (n : Node). MakeFacts nodes keys lits marks c n) f.2
@@ -253,7 +253,7 @@ module _ (nodes : List ℕ) (inputs : List ℤ) (keys : List ℕ) (lits : List �
 
 -- the plan over two nodes that were read
 module _ (t : Bool) (keys : List ℕ) (l r : Node) (c : Counters) (j : Pair) (s : Sizes) where
-  pub np_muls : t ≡ true → (leb c.nodes j.left || leb c.nodes j.right) ≡ false → muls_ok j (plain_pair l r) ≡ false → Reject BadMultiplier ≡ nodes_plan t keys l r c j s
+  pub np_muls : t ≡ true → (leb c.nodes j.left || leb c.nodes j.right) ≡ false → muls_ok j (plain_pair l r) ≡ false → Err BadMultiplier ≡ nodes_plan t keys l r c j s
   np_muls h g k = plan_muls t _ _ _ _ _ h g k
 
   pub np_unit : t ≡ true → (leb c.nodes j.left || leb c.nodes j.right) ≡ false → muls_ok j (plain_pair l r) ≡ true → (plain_pair l r && eqb j.lmul j.rmul) ≡ true

@@ -7,9 +7,7 @@ ghost use Rattle.paper.specs.Rows.{con_len, value_at};
 ghost use Rattle.paper.specs.Join.{room_for, muls_ok, fit_plan, unit_plan, general_plan, inner_plan};
 ghost use Rattle.keys.specs.Least.{Mono};
 
-use paper::{
-    CELL_LIMIT, Counters, DEPTH_LIMIT, KEY_LIMIT, MUL_LIMIT, Node, Pair, Planned, Refusal, Sizes,
-};
+use paper::{CELL_LIMIT, Counters, DEPTH_LIMIT, KEY_LIMIT, MUL_LIMIT, Node, Pair, Refusal, Sizes};
 
 pub fn room(c: Counters, count: usize, s: Sizes) -> bool
     ensures { result ≡ room_for c count s }
@@ -32,15 +30,15 @@ pub fn muls_ok(j: Pair, plain: bool) -> bool
 }
 
 // Depth, then room.
-fn fit_plan(kind: usize, j: Pair, l: Node, r: Node, c: Counters, count: usize, s: Sizes) -> Planned
+fn fit_plan(kind: usize, j: Pair, l: Node, r: Node, c: Counters, count: usize, s: Sizes) -> Result<Node, Refusal>
     ensures { result ≡ fit_plan kind j l r c count s }
 {
     let d = rows::larger(l.depth, r.depth);
     if DEPTH_LIMIT <= d {
-        return Planned::Reject(Refusal::TooDeep);
+        return Err(Refusal::TooDeep);
     }
     if room(c, count, s) {
-        Planned::Make(Node {
+        Ok(Node {
             kind,
             left: j.left,
             lmul: j.lmul,
@@ -51,11 +49,11 @@ fn fit_plan(kind: usize, j: Pair, l: Node, r: Node, c: Counters, count: usize, s
             depth: d + 1,
         })
     } else {
-        Planned::Reject(Refusal::NoRoom)
+        Err(Refusal::NoRoom)
     }
 }
 
-fn unit_plan(j: Pair, l: Node, r: Node, c: Counters, s: Sizes) -> Planned
+fn unit_plan(j: Pair, l: Node, r: Node, c: Counters, s: Sizes) -> Result<Node, Refusal>
     requires { (con_len l ≤ cell_limit) × (con_len r ≤ cell_limit) }
     ensures { result ≡ unit_plan j l r c s }
 {
@@ -65,7 +63,7 @@ fn unit_plan(j: Pair, l: Node, r: Node, c: Counters, s: Sizes) -> Planned
 
 // 8 from the two counts, 9 from the two largest values, then the fit. A count of more cells than are left is told by one more
 // than those.
-fn general_plan(keys: &[u32], j: Pair, l: Node, r: Node, c: Counters, s: Sizes) -> Planned
+fn general_plan(keys: &[u32], j: Pair, l: Node, r: Node, c: Counters, s: Sizes) -> Result<Node, Refusal>
     requires lmul_le_mul_limit { (j.lmul ≤ mul_limit) × (j.rmul ≤ mul_limit) × (c.cells ≤ cell_limit) }
     requires mono { (Mono (con_len l) (λ k. value_at keys.now l k)) × (Mono (con_len r) (λ k. value_at keys.now r k)) }
     ensures { result ≡ general_plan keys.now j l r c s }
@@ -75,11 +73,11 @@ fn general_plan(keys: &[u32], j: Pair, l: Node, r: Node, c: Counters, s: Sizes) 
     let nl = rows::con_len(l);
     let nr = rows::con_len(r);
     if (nl == 0) & (nr == 0) {
-        return Planned::Reject(Refusal::NoValue);
+        return Err(Refusal::NoValue);
     }
     let most = keys::largest(keys, l, lm) + keys::largest(keys, r, rm);
     if KEY_LIMIT < most {
-        return Planned::Reject(Refusal::KeyTooLarge);
+        return Err(Refusal::KeyTooLarge);
     }
     let top = CELL_LIMIT - c.cells + 1;
     let count = keys::count_keys(keys, l, lm, r, rm, top);
@@ -95,20 +93,20 @@ pub fn inner_plan(
     clauses: usize,
     c: Counters,
     j: Pair,
-) -> Planned
+) -> Result<Node, Refusal>
     ensures { result ≡ inner_plan nodes.now inputs.now keys.now lits.now marks.now clauses c j }
 {
     if !table::table_ok(nodes, inputs, keys, lits, marks, clauses, c) {
-        return Planned::Reject(Refusal::TableFails);
+        return Err(Refusal::TableFails);
     }
     if (c.nodes <= j.left) | (c.nodes <= j.right) {
-        return Planned::Reject(Refusal::NoSuchNode);
+        return Err(Refusal::NoSuchNode);
     }
     let l = rows::node_at(nodes, j.left);
     let r = rows::node_at(nodes, j.right);
     let plain = (l.kind != 2) & (r.kind != 2);
     if !muls_ok(j, plain) {
-        return Planned::Reject(Refusal::BadMultiplier);
+        return Err(Refusal::BadMultiplier);
     }
     let s = Sizes {
         nodes: nodes.len(),

@@ -1,7 +1,7 @@
 -- The ways in which a weighted demand makes up a value are just the pairs of the output's own clauses.
 use Rattle.std.specs.Prelude.{◌≡◌, Bool, List, ◌⊎◌, ℤ, get_or, eqb}
 use Rattle.std.proofs.Math.Path.{refl}
-use Rattle.std.proofs.Common.{sym, ◌∙◌, ap, inr}
+use Rattle.std.proofs.Common.{sym, ◌∙◌, ap, inr, None, Option, Some}
 use Rattle.std.proofs.Math.Bool.{true, false, cond}
 use Rattle.std.proofs.Math.Logic.{inl}
 use Prim.Native.Nat.{ℕ, zero, suc, ◌+◌, ◌*◌, ◌-◌, ◌/◌, ◌%◌, ◌<◌, ◌≤◌}
@@ -12,8 +12,6 @@ use Rattle.std.proofs.Math.Dec.{ltb}
 use borrow.Author.Tests.{eqb-true, eqb-false, ltb-true, ltb-false, eq-eqb, ne_eqb, lt-ltb, le-ltb}
 use Rattle.paper.specs.Rows.{node_at, value_count, con_val}
 use Rattle.paper.specs.Weighted.{key_from, output_of, place_of, share_of, no_way, joined, way_two, way_of, turns_of}
-use Rattle.paper.specs.declared.Found.{Found}
-use Rattle.paper.specs.declared.Found.TheVariants.{At, Absent}
 use Rattle.paper.specs.declared.Way.{Way}
 use Rattle.meaning.specs.Table.{Kind, leaf, dummy, unit, general, Tab, NotGeneral, IfPair, Shape}
 use Rattle.meaning.proofs.Sound.{key_small}
@@ -23,20 +21,20 @@ use Rattle.meaning.proofs.View.{test_is, count_is, value_is}
 use Rattle.meaning.specs.Ways.{Finds, Share}
 
 -- among the n keys from the k-th on
-abbrev FindsFrom : (ℕ → ℕ) → ℕ → ℕ → ℕ → Found → Type 0
-FindsFrom key k n v (At q) = (q < k + n) × (key q ≡ v)
-FindsFrom key k n v Absent = (q : ℕ) → k ≤ q → q < k + n → key q ≡ v → ⊥
+abbrev FindsFrom : (ℕ → ℕ) → ℕ → ℕ → ℕ → Option ℕ → Type 0
+FindsFrom key k n v (Some q) = (q < k + n) × (key q ≡ v)
+FindsFrom key k n v None = (q : ℕ) → k ≤ q → q < k + n → key q ≡ v → ⊥
 
 key_from_finds : (keys : List ℕ) (first v n k : ℕ) → FindsFrom (λ q. get_or keys (first + q) 0) k n v (key_from keys first v n k)
 unfolding key_from
 key_from_finds keys first v zero k = λ q a b e. let z : ⊥ = omega arith in z
 key_from_finds keys first v (suc n) k = go (eqb (get_or keys (first + k) 0) v) refl (key_from keys first v n (k + 1)) (key_from_finds keys first v n (k + 1))
   where
-    go : (b : Bool) → eqb (get_or keys (first + k) 0) v ≡ b → (r : Found) → FindsFrom (λ q. get_or keys (first + q) 0) (k + 1) n v r
-        → FindsFrom (λ q. get_or keys (first + q) 0) k (suc n) v (cond b (At k) r)
+    go : (b : Bool) → eqb (get_or keys (first + k) 0) v ≡ b → (r : Option ℕ) → FindsFrom (λ q. get_or keys (first + q) 0) (k + 1) n v r
+        → FindsFrom (λ q. get_or keys (first + q) 0) k (suc n) v (cond b (Some k) r)
     go true e r s = (omega arith, eqb-true (get_or keys (first + k) 0) v e)
-    go false e (At q) s = let a = s.0 in (omega arith, s.1)
-    go false e Absent s = λ q a b h. here q a b h (ℕ_discrete q k)
+    go false e (Some q) s = let a = s.0 in (omega arith, s.1)
+    go false e None s = λ q a b h. here q a b h (ℕ_discrete q k)
       where
         here : (q : ℕ) → k ≤ q → q < k + suc n → get_or keys (first + q) 0 ≡ v → Dec (q ≡ k) → ⊥
         here q a b h (yes x) = eqb-false (get_or keys (first + k) 0) v e (ap (λ (p : ℕ). get_or keys (first + p) 0) (sym x) ∙ h)
@@ -51,13 +49,13 @@ module _ (ns : List ℕ) (ins : List ℤ) (keys : List ℕ) (size from len : ℕ
   t = tab_of g σ
 
   small_finds : (c : ℕ) → c < size → NotGeneral (kind_of (node_at ns c).kind) → (v : ℕ)
-      → Finds (key_of g c) (value_count (node_at ns c)) v (cond (eqb v 0) Absent (cond (ltb (value_count (node_at ns c)) v) Absent (At (v - 1))))
+      → Finds (key_of g c) (value_count (node_at ns c)) v (cond (eqb v 0) None (cond (ltb (value_count (node_at ns c)) v) None (Some (v - 1))))
   small_finds c s k v = go (eqb v 0) refl (ltb (value_count (node_at ns c)) v) refl
     where
       small : (q : ℕ) → q < value_count (node_at ns c) → key_of g c q ≡ suc q
       small q h = key_small t c (kind_of (node_at ns c).kind) (shape c s) k (suc q) h
 
-      go : (b : Bool) → eqb v 0 ≡ b → (d : Bool) → ltb (value_count (node_at ns c)) v ≡ d → Finds (key_of g c) (value_count (node_at ns c)) v (cond b Absent (cond d Absent (At (v - 1))))
+      go : (b : Bool) → eqb v 0 ≡ b → (d : Bool) → ltb (value_count (node_at ns c)) v ≡ d → Finds (key_of g c) (value_count (node_at ns c)) v (cond b None (cond d None (Some (v - 1))))
       go true e d f = λ q h x. let a = eqb-true v 0 e in let b = small q h in let z : ⊥ = omega arith in z
       go false e true f = λ q h x. let a = ltb-true (value_count (node_at ns c)) v f in let b = small q h in let z : ⊥ = omega arith in z
       go false e false f =
@@ -70,16 +68,16 @@ module _ (ns : List ℕ) (ins : List ℤ) (keys : List ℕ) (size from len : ℕ
   unfolding output_of
   output_finds c s v = go (kind_of (node_at ns c).kind) refl
     where
-      rest : Found
-      rest = cond (eqb v 0) Absent (cond (ltb (value_count (node_at ns c)) v) Absent (At (v - 1)))
+      rest : Option ℕ
+      rest = cond (eqb v 0) None (cond (ltb (value_count (node_at ns c)) v) None (Some (v - 1)))
 
       word : kind_of (node_at ns c).kind ≡ general → (q : ℕ) → key_of g c q ≡ get_or keys ((node_at ns c).first + q) 0
       word e q = rw e
 
-      found : kind_of (node_at ns c).kind ≡ general → (f : Found) → FindsFrom (λ q. get_or keys ((node_at ns c).first + q) 0) 0 (node_at ns c).count v f
+      found : kind_of (node_at ns c).kind ≡ general → (f : Option ℕ) → FindsFrom (λ q. get_or keys ((node_at ns c).first + q) 0) 0 (node_at ns c).count v f
           → Finds (key_of g c) (value_count (node_at ns c)) v f
-      found e (At q) h = let a = count_is ns c (fit.kinds c s) general e in let b = h.0 in (omega arith, word e q ∙ h.1)
-      found e Absent h = λ q hq x. let a = count_is ns c (fit.kinds c s) general e in h q (omega arith) (omega arith) (sym (word e q) ∙ x)
+      found e (Some q) h = let a = count_is ns c (fit.kinds c s) general e in let b = h.0 in (omega arith, word e q ∙ h.1)
+      found e None h = λ q hq x. let a = count_is ns c (fit.kinds c s) general e in h q (omega arith) (omega arith) (sym (word e q) ∙ x)
 
       go : (q : Kind) → kind_of (node_at ns c).kind ≡ q
           → Finds (key_of g c) (value_count (node_at ns c)) v (cond (eqb (node_at ns c).kind 2) (key_from keys (node_at ns c).first v (node_at ns c).count 0) rest)
@@ -96,9 +94,9 @@ module _ (ns : List ℕ) (ins : List ℤ) (keys : List ℕ) (size from len : ℕ
       part : (q : ℕ) → m * key_of g c q ≡ v → (v % m ≡ 0) × (v / m ≡ key_of g c q)
       part q e = (rw (← e) (mul-mod_right m (key_of g c q)), rw (← e) (mul-div_cancel_left (key_of g c q) hm))
 
-      go : (b : Bool) → eqb (v % m) 0 ≡ b → (f : Found) → Finds (key_of g c) (value_count (node_at ns c)) (v / m) f
+      go : (b : Bool) → eqb (v % m) 0 ≡ b → (f : Option ℕ) → Finds (key_of g c) (value_count (node_at ns c)) (v / m) f
           → Share (key_of g c) (value_count (node_at ns c)) m v (cond b (place_of f) 0)
-      go true e (At q) h =
+      go true e (Some q) h =
           let a = eqb-true (v % m) 0 e in
           let d = mod-add-div v m in
           let x : q + 1 ≡ suc q = omega arith in
@@ -108,7 +106,7 @@ module _ (ns : List ℕ) (ins : List ℤ) (keys : List ℕ) (size from len : ℕ
             is = ap (λ (u : ℕ). m * u) h.1 ∙ (let z : m * (v / m) ≡ v = omega arith in z);
             all = λ p hp ep. ap suc (sharp.apart c q p s hq hp (h.1 ∙ (part p ep).1));
           })
-      go true e Absent h = record { low = omega arith; is = tt; all = λ p hp ep. absurd (h p hp (sym (part p ep).1)) }
+      go true e None h = record { low = omega arith; is = tt; all = λ p hp ep. absurd (h p hp (sym (part p ep).1)) }
       go false e f h = record { low = omega arith; is = tt; all = λ p hp ep. absurd (eqb-false (v % m) 0 e (part p ep).0) }
 
   -- ---- the ways of output j of the general node n

@@ -1,14 +1,12 @@
 -- The ways in which a weighted demand makes up a value are just the pairs of the output's own clauses.
-use Rattle.std.specs.Prelude.{◌≡◌}
+use Rattle.std.specs.Prelude.{◌≡◌, None, Option, Some}
 use Prim.Native.Nat.{ℕ, suc, ◌*◌, ◌<◌, ◌≤◌}
-use Rattle.paper.specs.declared.Found.{Found}
-use Rattle.paper.specs.declared.Found.TheVariants.{At, Absent}
 use Rattle.meaning.specs.Base.{AtPrev}
 
 -- what a search finds: the key of index q is v; or no key is
-abbrev pub Finds : (ℕ → ℕ) → ℕ → ℕ → Found → Type 0
-Finds key count v (At q) = (q < count) × (key q ≡ v)
-Finds key count v Absent = (q : ℕ) → q < count → key q ≡ v → ⊥
+abbrev pub Finds : (ℕ → ℕ) → ℕ → ℕ → Option ℕ → Type 0
+Finds key count v (Some q) = (q < count) × (key q ≡ v)
+Finds key count v None = (q : ℕ) → q < count → key q ≡ v → ⊥
 
 -- the place that a share has: no more than there are, its key times m is v, and it is found if it is there
 pub record Share (key : ℕ → ℕ) (count m v y : ℕ) : Type 0 where

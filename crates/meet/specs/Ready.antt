@@ -1,5 +1,6 @@
 -- What a weighted demand's run asks of the rows in use, and what it then says.
-use Rattle.std.specs.Prelude.{List, ℕ, ◌+◌, ◌<◌, ◌≤◌, ◌^◌, ℤ, length}
+use Rattle.paper.specs.declared.Refusal.{Refusal}
+use Rattle.std.specs.Prelude.{List, ℕ, ◌+◌, ◌<◌, ◌≤◌, ◌^◌, ℤ, length, Result}
 use Rattle.paper.specs.Limits.{var_limit}
 use Rattle.paper.specs.Rows.{con_lits}
 use Rattle.paper.specs.Plain.{lit_at}
@@ -21,6 +22,6 @@ pub record Ready (ns : List ℕ) (ins : List ℤ) (keys : List ℕ) (lits : List
   pub next : c.next ≤ c.last + 1
 
 -- the demand of output j of node k, met: by the plain run from place j + 1
-abbrev pub MetSum : List ℕ → List ℤ → List ℕ → Counters → ℕ → ℕ → List ℤ → List ℕ → List ℤ → Demanded → List ℤ → List ℕ → List ℤ → Type 0
+abbrev pub MetSum : List ℕ → List ℤ → List ℕ → Counters → ℕ → ℕ → List ℤ → List ℕ → List ℤ → Result Demanded Refusal → List ℤ → List ℕ → List ℤ → Type 0
 MetSum ns ins keys c k j lits marks row r lits' marks' row' =
     Met (weigh_run ns ins keys lits marks c.next k (j + 1)) c (lit_at (con_lits ns ins (weigh_run ns ins keys lits marks c.next k (j + 1)).lits k) j) lits marks row r lits' marks' row'

@@ -1,5 +1,7 @@
 -- 01: unweighted and weighted, with their refusals. "unweighted 2, 3, 4, 5, 1, 12, 13; weighted 2, 3, 4, 1, 12, 13".
-use Rattle.std.specs.Prelude.{ℕ, ◌+◌, ◌*◌, List, ◌++◌, Bool, true, false, cond, length, take, drop, leb, ltb, ℤ}
+use Rattle.paper.specs.Answers.{gives}
+use Rattle.paper.specs.declared.Refusal.{Refusal}
+use Rattle.std.specs.Prelude.{ℕ, ◌+◌, ◌*◌, List, ◌++◌, Bool, true, false, cond, length, take, drop, leb, ltb, ℤ, Err, Ok, None, Option, Result, Some}
 use Rattle.std.proofs.lemmas.List.Edits.{sets}
 use Rattle.paper.specs.Limits.{node_words}
 use Rattle.paper.specs.Rows.{node_at, is_general, value_count, con_lits}
@@ -8,11 +10,8 @@ use Rattle.paper.specs.Plain.{St, lit_at, plain_run}
 use Rattle.paper.specs.Weighted.{output_of, place_of, weigh_run}
 use Rattle.paper.specs.declared.Want.{Want}
 use Rattle.paper.specs.declared.Counters.{Counters}
-use Rattle.paper.specs.declared.Found.{Found}
-use Rattle.paper.specs.declared.Found.TheVariants.{At, Absent}
 use Rattle.paper.specs.declared.Refusal.TheVariants.{NoSuchOutput, TableFails, WorkShort, NoSuchNode, GeneralNode, VariablesOut, ClausesShort}
 use Rattle.paper.specs.declared.Demanded.{Demanded}
-use Rattle.paper.specs.declared.Demanded.TheVariants.{Given, NotGiven}
 
 -- ---- the part of a row that is in use: a run is over these parts, and what lies past them is never looked at and stays as it stood
 
@@ -34,21 +33,21 @@ abbrev pub ran_counters : St (List ℤ) → Counters → Counters
 ran_counters p c = record { first = c.first; next = p.next; last = c.last; nodes = c.nodes; inputs = c.inputs; cells = c.cells; words = c.words + length p.out }
 
 -- "12 and 13 are given exactly if the plain run with unlimited room takes more variables or words than remain."
-unfoldable pub room_of : St (List ℤ) → Counters → ℕ → ℤ → Demanded
+unfoldable pub room_of : St (List ℤ) → Counters → ℕ → ℤ → Result Demanded Refusal
 room_of p c clauses z =
     cond (leb p.next (c.last + 1))
-    (cond (leb (c.words + length p.out) clauses) (Given z (ran_counters p c)) (NotGiven ClausesShort))
-    (NotGiven VariablesOut)
+    (cond (leb (c.words + length p.out) clauses) (gives z (ran_counters p c)) (Err ClausesShort))
+    (Err VariablesOut)
 
 -- 2 the table, 3 the working area, 4 the node, 5 a general node (never so where the demand is weighted), 1 the output, then 12 and 13
-unfoldable pub demanded_of : Bool → Bool → Bool → Bool → Bool → Demanded → Demanded
+unfoldable pub demanded_of : Bool → Bool → Bool → Bool → Bool → Result Demanded Refusal → Result Demanded Refusal
 demanded_of table work here general output room =
-    cond table (cond work (cond here (cond general (NotGiven GeneralNode) (cond output room (NotGiven NoSuchOutput))) (NotGiven NoSuchNode)) (NotGiven WorkShort)) (NotGiven TableFails)
+    cond table (cond work (cond here (cond general (Err GeneralNode) (cond output room (Err NoSuchOutput))) (Err NoSuchNode)) (Err WorkShort)) (Err TableFails)
 
 -- "Nothing but 0 changes anything outside the working area"
-abbrev pub demanded_row : {A : Type 0} → Demanded → A → A → A
-demanded_row (Given z c) old new = new
-demanded_row (NotGiven why) old new = old
+abbrev pub demanded_row : {A : Type 0} → Result Demanded Refusal → A → A → A
+demanded_row (Ok a) old new = new
+demanded_row (Err why) old new = old
 
 -- ---- unweighted: node id, index i, directions w; clauses, ints and bytes are the lengths of the clause row and of the working area
 
@@ -56,7 +55,7 @@ abbrev pub count_run : List ℕ → List ℤ → List ℤ → List ℕ → Count
 count_run nodes inputs lits marks c id i w =
     plain_run (nodes_used nodes c) (inputs_used inputs c) (cells_used lits c) (cells_used marks c) c.next id i w
 
-unfoldable pub count_of : List ℕ → List ℤ → List ℕ → List ℤ → List ℕ → ℕ → ℕ → ℕ → Counters → ℕ → ℕ → Want → Demanded
+unfoldable pub count_of : List ℕ → List ℤ → List ℕ → List ℤ → List ℕ → ℕ → ℕ → ℕ → Counters → ℕ → ℕ → Want → Result Demanded Refusal
 count_of nodes inputs keys lits marks clauses ints bytes c id i w =
     demanded_of (table_ok nodes inputs keys lits marks clauses c) (work_ok ints bytes c) (ltb id c.nodes) (is_general (node_at nodes id)) (ltb i (value_count (node_at nodes id)))
     (room_of (count_run nodes inputs lits marks c id i w) c clauses
@@ -65,22 +64,22 @@ count_of nodes inputs keys lits marks clauses ints bytes c id i w =
 -- ---- weighted: node id, value v
 
 -- the output of value v, among the outputs of the node
-abbrev pub sum_place : List ℕ → List ℕ → Counters → ℕ → ℕ → Found
+abbrev pub sum_place : List ℕ → List ℕ → Counters → ℕ → ℕ → Option ℕ
 sum_place nodes keys c id v = output_of (cells_used keys c) (node_at nodes id) v
 
-abbrev pub is_at : Found → Bool
-is_at (At j) = true
-is_at Absent = false
+abbrev pub is_at : Option ℕ → Bool
+is_at (Some j) = true
+is_at None = false
 
-abbrev pub index_of : Found → ℕ
-index_of (At j) = j
-index_of Absent = 0
+abbrev pub index_of : Option ℕ → ℕ
+index_of (Some j) = j
+index_of None = 0
 
 abbrev pub sum_run : List ℕ → List ℤ → List ℕ → List ℤ → List ℕ → Counters → ℕ → ℕ → St (List ℤ)
 sum_run nodes inputs keys lits marks c id v =
     weigh_run (nodes_used nodes c) (inputs_used inputs c) (cells_used keys c) (cells_used lits c) (cells_used marks c) c.next id (place_of (sum_place nodes keys c id v))
 
-unfoldable pub sum_of : List ℕ → List ℤ → List ℕ → List ℤ → List ℕ → ℕ → ℕ → ℕ → Counters → ℕ → ℕ → Demanded
+unfoldable pub sum_of : List ℕ → List ℤ → List ℕ → List ℤ → List ℕ → ℕ → ℕ → ℕ → Counters → ℕ → ℕ → Result Demanded Refusal
 sum_of nodes inputs keys lits marks clauses ints bytes c id v =
     demanded_of (table_ok nodes inputs keys lits marks clauses c) (work_ok ints bytes c) (ltb id c.nodes) false (is_at (sum_place nodes keys c id v))
     (room_of (sum_run nodes inputs keys lits marks c id v) c clauses
@@ -88,11 +87,11 @@ sum_of nodes inputs keys lits marks clauses ints bytes c id v =
 
 -- ---- the rows afterwards, of either demand: r is the answer and p the run
 
-abbrev pub demanded_lits : Demanded → St (List ℤ) → List ℤ → Counters → List ℤ
+abbrev pub demanded_lits : Result Demanded Refusal → St (List ℤ) → List ℤ → Counters → List ℤ
 demanded_lits r p lits c = demanded_row r lits (cells_back p.lits lits c)
 
-abbrev pub demanded_marks : Demanded → St (List ℤ) → List ℕ → Counters → List ℕ
+abbrev pub demanded_marks : Result Demanded Refusal → St (List ℤ) → List ℕ → Counters → List ℕ
 demanded_marks r p marks c = demanded_row r marks (cells_back p.marks marks c)
 
-abbrev pub demanded_clauses : Demanded → St (List ℤ) → List ℤ → Counters → List ℤ
+abbrev pub demanded_clauses : Result Demanded Refusal → St (List ℤ) → List ℤ → Counters → List ℤ
 demanded_clauses r p clauses c = demanded_row r clauses (sets clauses c.words p.out)

@@ -1,5 +1,7 @@
 -- 01: fresh, leaf, dummy. What the calls that begin a table and add a leaf or the dummy answer, and what they leave in the rows.
-use Rattle.std.specs.Prelude.{ℕ, ◌+◌, ◌*◌, ◌/◌, List, Bool, true, cond, ◌&&◌, length, get_or, set, eqb, ltb, ℤ, pos, nat_abs}
+use Rattle.paper.specs.Answers.{adds}
+use Rattle.paper.specs.declared.Refusal.{Refusal}
+use Rattle.std.specs.Prelude.{ℕ, ◌+◌, ◌*◌, ◌/◌, List, Bool, true, cond, ◌&&◌, length, get_or, set, eqb, ltb, ℤ, pos, nat_abs, Err, None, Ok, Option, Result, Some}
 use Rattle.std.specs.Bool.{beq}
 use Rattle.paper.specs.Limits.{node_limit, node_words}
 use Rattle.paper.specs.Below.{first_below}
@@ -8,20 +10,15 @@ use Rattle.paper.specs.Table.{range_ok, table_ok}
 use Rattle.paper.specs.declared.Node.{Node}
 use Rattle.paper.specs.declared.Counters.{Counters}
 use Rattle.paper.specs.declared.Refusal.TheVariants.{TableFails, BadLiteral, NoRoom, BadVariables}
-use Rattle.paper.specs.declared.Begun.{Begun}
-use Rattle.paper.specs.declared.Begun.TheVariants.{Made, NotMade}
 use Rattle.paper.specs.declared.Added.{Added}
-use Rattle.paper.specs.declared.Added.TheVariants.{Done, Refused}
-use Rattle.paper.specs.declared.Choice.{Choice}
-use Rattle.paper.specs.declared.Choice.TheVariants.{Old, New, No}
 
 -- "F and last are set by the fresh call, which sets next, the first free variable, to F and zeroes the counts, clause length included."
 abbrev pub begun : ℕ → ℕ → Counters
 begun first last = record { first = first; next = first; last = last; nodes = 0; inputs = 0; cells = 0; words = 0 }
 
 -- "fresh 15"
-unfoldable pub fresh_of : ℕ → ℕ → Begun
-fresh_of first last = cond (range_ok first first last) (Made (begun first last)) (NotMade BadVariables)
+unfoldable pub fresh_of : ℕ → ℕ → Result Counters Refusal
+fresh_of first last = cond (range_ok first first last) (Ok (begun first last)) (Err BadVariables)
 
 abbrev pub same_lit : ℤ → ℤ → Bool
 same_lit x y = eqb (nat_abs x) (nat_abs y) && beq (is_neg x) (is_neg y)
@@ -53,16 +50,16 @@ abbrev pub room_for_node : ℕ → ℕ → Bool
 room_for_node nodes len = ltb nodes node_limit && ltb nodes (len / node_words)
 
 -- "leaf 2, 6, then an equal literal already present answers with its lowest id, then 11; dummy 2, existing dummy's lowest id, 11"
-unfoldable pub choose : Bool → Bool → ℕ → ℕ → Bool → Choice
+unfoldable pub choose : Bool → Bool → ℕ → ℕ → Bool → Result (Option ℕ) Refusal
 choose table literal found count room =
-    cond table (cond literal (cond (ltb found count) (Old found) (cond room New (No NoRoom))) (No BadLiteral)) (No TableFails)
+    cond table (cond literal (cond (ltb found count) (Ok (Some found)) (cond room (Ok None) (Err NoRoom))) (Err BadLiteral)) (Err TableFails)
 
-unfoldable pub leaf_plan : List ℕ → List ℤ → List ℕ → List ℤ → List ℕ → ℕ → Counters → ℤ → Choice
+unfoldable pub leaf_plan : List ℕ → List ℤ → List ℕ → List ℤ → List ℕ → ℕ → Counters → ℤ → Result (Option ℕ) Refusal
 leaf_plan nodes inputs keys lits marks clauses c x =
     choose (table_ok nodes inputs keys lits marks clauses c) (lit_ok x c.first) (first_leaf nodes inputs c.nodes x) c.nodes
     (room_for_node c.nodes (length nodes) && ltb c.inputs (length inputs))
 
-unfoldable pub dummy_plan : List ℕ → List ℤ → List ℕ → List ℤ → List ℕ → ℕ → Counters → Choice
+unfoldable pub dummy_plan : List ℕ → List ℤ → List ℕ → List ℤ → List ℕ → ℕ → Counters → Result (Option ℕ) Refusal
 dummy_plan nodes inputs keys lits marks clauses c =
     choose (table_ok nodes inputs keys lits marks clauses c) true (first_dummy nodes c.nodes) c.nodes (room_for_node c.nodes (length nodes))
 
@@ -73,27 +70,27 @@ abbrev pub with_dummy : Counters → Counters
 with_dummy c = record { first = c.first; next = c.next; last = c.last; nodes = c.nodes + 1; inputs = c.inputs; cells = c.cells; words = c.words }
 
 -- the answer, and the rows after it: only a new node is written
-abbrev pub leaf_added : Choice → Counters → Added
-leaf_added (Old id) c = Done id c
-leaf_added New c = Done c.nodes (with_leaf c)
-leaf_added (No why) c = Refused why
+abbrev pub leaf_added : Result (Option ℕ) Refusal → Counters → Result Added Refusal
+leaf_added (Ok (Some id)) c = adds id c
+leaf_added (Ok None) c = adds c.nodes (with_leaf c)
+leaf_added (Err why) c = Err why
 
-abbrev pub leaf_nodes : Choice → List ℕ → Counters → List ℕ
-leaf_nodes (Old id) nodes c = nodes
-leaf_nodes New nodes c = put_node nodes c.nodes (leaf_node c.inputs)
-leaf_nodes (No why) nodes c = nodes
+abbrev pub leaf_nodes : Result (Option ℕ) Refusal → List ℕ → Counters → List ℕ
+leaf_nodes (Ok (Some id)) nodes c = nodes
+leaf_nodes (Ok None) nodes c = put_node nodes c.nodes (leaf_node c.inputs)
+leaf_nodes (Err why) nodes c = nodes
 
-abbrev pub leaf_inputs : Choice → List ℤ → Counters → ℤ → List ℤ
-leaf_inputs (Old id) inputs c x = inputs
-leaf_inputs New inputs c x = set inputs c.inputs x
-leaf_inputs (No why) inputs c x = inputs
+abbrev pub leaf_inputs : Result (Option ℕ) Refusal → List ℤ → Counters → ℤ → List ℤ
+leaf_inputs (Ok (Some id)) inputs c x = inputs
+leaf_inputs (Ok None) inputs c x = set inputs c.inputs x
+leaf_inputs (Err why) inputs c x = inputs
 
-abbrev pub dummy_added : Choice → Counters → Added
-dummy_added (Old id) c = Done id c
-dummy_added New c = Done c.nodes (with_dummy c)
-dummy_added (No why) c = Refused why
+abbrev pub dummy_added : Result (Option ℕ) Refusal → Counters → Result Added Refusal
+dummy_added (Ok (Some id)) c = adds id c
+dummy_added (Ok None) c = adds c.nodes (with_dummy c)
+dummy_added (Err why) c = Err why
 
-abbrev pub dummy_nodes : Choice → List ℕ → Counters → List ℕ
-dummy_nodes (Old id) nodes c = nodes
-dummy_nodes New nodes c = put_node nodes c.nodes dummy_node
-dummy_nodes (No why) nodes c = nodes
+abbrev pub dummy_nodes : Result (Option ℕ) Refusal → List ℕ → Counters → List ℕ
+dummy_nodes (Ok (Some id)) nodes c = nodes
+dummy_nodes (Ok None) nodes c = put_node nodes c.nodes dummy_node
+dummy_nodes (Err why) nodes c = nodes

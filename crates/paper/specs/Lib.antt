@@ -4,6 +4,7 @@ pub mod Span
 pub mod Rows
 pub mod Keys
 pub mod Table
+pub mod Answers
 pub mod Grow
 pub mod Join
 pub mod Plain

@@ -1,5 +1,6 @@
 -- 01, "Numbers given back": the number of each refusal; of each answer its number, and the id, literal or value given back, which is 0 where it is refused.
-use Rattle.std.specs.Prelude.{ℕ, ℤ, pos}
+use Rattle.paper.specs.Answers.{adds, gives}
+use Rattle.std.specs.Prelude.{ℕ, ℤ, pos, Err, Ok, Result}
 use Rattle.paper.specs.declared.Counters.{Counters}
 use Rattle.paper.specs.declared.Refusal.{Refusal}
 use Rattle.paper.specs.declared.Refusal.TheVariants.{
@@ -19,16 +20,8 @@ use Rattle.paper.specs.declared.Refusal.TheVariants.{
   BadAssignment,
   BadVariables,
 }
-use Rattle.paper.specs.declared.Begun.{Begun}
-use Rattle.paper.specs.declared.Begun.TheVariants.{Made, NotMade}
 use Rattle.paper.specs.declared.Added.{Added}
-use Rattle.paper.specs.declared.Added.TheVariants.{Done, Refused}
 use Rattle.paper.specs.declared.Demanded.{Demanded}
-use Rattle.paper.specs.declared.Demanded.TheVariants.{Given, NotGiven}
-use Rattle.paper.specs.declared.Kept.{Kept}
-use Rattle.paper.specs.declared.Kept.TheVariants.{Did, DidNot}
-use Rattle.paper.specs.declared.Valued.{Valued}
-use Rattle.paper.specs.declared.Valued.TheVariants.{Worth, NotValued}
 
 abbrev pub number_of : Refusal → ℕ
 number_of NoSuchOutput = 1
@@ -59,22 +52,22 @@ refused why c = record { number = number_of why; value = pos 0; counters = c }
 abbrev pub done : ℤ → Counters → Said
 done z c = record { number = 0; value = z; counters = c }
 
-abbrev pub begun_said : Begun → Counters → Said
-begun_said (Made c') c = done (pos 0) c'
-begun_said (NotMade why) c = refused why c
+abbrev pub begun_said : Result Counters Refusal → Counters → Said
+begun_said (Ok c') c = done (pos 0) c'
+begun_said (Err why) c = refused why c
 
-abbrev pub added_said : Added → Counters → Said
-added_said (Done id c') c = done (pos id) c'
-added_said (Refused why) c = refused why c
+abbrev pub added_said : Result Added Refusal → Counters → Said
+added_said (Ok a) c = done (pos a.id) a.counters
+added_said (Err why) c = refused why c
 
-abbrev pub demanded_said : Demanded → Counters → Said
-demanded_said (Given z c') c = done z c'
-demanded_said (NotGiven why) c = refused why c
+abbrev pub demanded_said : Result Demanded Refusal → Counters → Said
+demanded_said (Ok a) c = done a.lit a.counters
+demanded_said (Err why) c = refused why c
 
-abbrev pub kept_said : Kept → Counters → Said
-kept_said (Did c') c = done (pos 0) c'
-kept_said (DidNot why) c = refused why c
+abbrev pub kept_said : Result Counters Refusal → Counters → Said
+kept_said (Ok c') c = done (pos 0) c'
+kept_said (Err why) c = refused why c
 
-abbrev pub valued_said : Valued → Counters → Said
-valued_said (Worth v) c = done (pos v) c
-valued_said (NotValued why) c = refused why c
+abbrev pub valued_said : Result ℕ Refusal → Counters → Said
+valued_said (Ok v) c = done (pos v) c
+valued_said (Err why) c = refused why c

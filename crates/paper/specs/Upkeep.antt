@@ -1,5 +1,6 @@
 -- 01: reserve, reset, emptying, value. "reserve 2, 3, 4, 12; value 2, 3, 4, 14; reset and emptying the clauses 2".
-use Rattle.std.specs.Prelude.{ℕ, zero, suc, ◌+◌, ◌-◌, ◌*◌, List, [], ◌∷◌, ◌++◌, Bool, cond, ◌&&◌, length, get_or, replicate, eqb, leb, ltb, ℤ, pos, nat_abs}
+use Rattle.paper.specs.declared.Refusal.{Refusal}
+use Rattle.std.specs.Prelude.{ℕ, zero, suc, ◌+◌, ◌-◌, ◌*◌, List, [], ◌∷◌, ◌++◌, Bool, cond, ◌&&◌, length, get_or, replicate, eqb, leb, ltb, ℤ, pos, nat_abs, Err, Ok, Result}
 use Rattle.std.proofs.Math.Seq.{paste}
 use Rattle.paper.specs.Below.{all_below}
 use Rattle.paper.specs.Rows.{node_at, is_leaf, is_dummy, is_neg}
@@ -8,10 +9,6 @@ use Rattle.paper.specs.Plain.{taken_lits, taken_next}
 use Rattle.paper.specs.declared.Node.{Node}
 use Rattle.paper.specs.declared.Counters.{Counters}
 use Rattle.paper.specs.declared.Refusal.TheVariants.{TableFails, WorkShort, NoSuchNode, VariablesOut, BadAssignment}
-use Rattle.paper.specs.declared.Kept.{Kept}
-use Rattle.paper.specs.declared.Kept.TheVariants.{Did, DidNot}
-use Rattle.paper.specs.declared.Valued.{Valued}
-use Rattle.paper.specs.declared.Valued.TheVariants.{Worth, NotValued}
 
 -- ---- reserve
 
@@ -52,23 +49,23 @@ abbrev pub with_next : Counters → ℕ → Counters
 with_next c next = record { first = c.first; next = next; last = c.last; nodes = c.nodes; inputs = c.inputs; cells = c.cells; words = c.words }
 
 -- 2 the table, 3 the working area, 4 the node, 12 the variables
-unfoldable pub reserve_answer : Bool → Bool → Bool → Counters → Stock → Kept
+unfoldable pub reserve_answer : Bool → Bool → Bool → Counters → Stock → Result Counters Refusal
 reserve_answer table work here c s =
-    cond table (cond work (cond here (cond (leb s.next (c.last + 1)) (Did (with_next c s.next)) (DidNot VariablesOut)) (DidNot NoSuchNode)) (DidNot WorkShort)) (DidNot TableFails)
+    cond table (cond work (cond here (cond (leb s.next (c.last + 1)) (Ok (with_next c s.next)) (Err VariablesOut)) (Err NoSuchNode)) (Err WorkShort)) (Err TableFails)
 
-unfoldable pub reserve_of : List ℕ → List ℤ → List ℕ → List ℤ → List ℕ → ℕ → ℕ → ℕ → Counters → ℕ → Kept
+unfoldable pub reserve_of : List ℕ → List ℤ → List ℕ → List ℤ → List ℕ → ℕ → ℕ → ℕ → Counters → ℕ → Result Counters Refusal
 reserve_of nodes inputs keys lits marks clauses ints bytes c id =
     reserve_answer (table_ok nodes inputs keys lits marks clauses c) (work_ok ints bytes c) (ltb id c.nodes) c (reserved_by nodes lits id c.next)
 
-abbrev pub kept_row : {A : Type 0} → Kept → A → A → A
-kept_row (Did c) old new = new
-kept_row (DidNot why) old new = old
+abbrev pub kept_row : {A : Type 0} → Result Counters Refusal → A → A → A
+kept_row (Ok c) old new = new
+kept_row (Err why) old new = old
 
 -- ---- reset, emptying
 
 -- "Reset clears both marks of every cell and keeps literals."
-unfoldable pub reset_of : List ℕ → List ℤ → List ℕ → List ℤ → List ℕ → ℕ → Counters → Kept
-reset_of nodes inputs keys lits marks clauses c = cond (table_ok nodes inputs keys lits marks clauses c) (Did c) (DidNot TableFails)
+unfoldable pub reset_of : List ℕ → List ℤ → List ℕ → List ℤ → List ℕ → ℕ → Counters → Result Counters Refusal
+reset_of nodes inputs keys lits marks clauses c = cond (table_ok nodes inputs keys lits marks clauses c) (Ok c) (Err TableFails)
 
 abbrev pub cleared_marks : List ℕ → Counters → List ℕ
 cleared_marks marks c = paste marks 0 (replicate c.cells 0) c.cells
@@ -77,8 +74,8 @@ cleared_marks marks c = paste marks 0 (replicate c.cells 0) c.cells
 abbrev pub emptied : Counters → Counters
 emptied c = record { first = c.first; next = c.next; last = c.last; nodes = c.nodes; inputs = c.inputs; cells = c.cells; words = 0 }
 
-unfoldable pub empty_of : List ℕ → List ℤ → List ℕ → List ℤ → List ℕ → ℕ → Counters → Kept
-empty_of nodes inputs keys lits marks clauses c = cond (table_ok nodes inputs keys lits marks clauses c) (Did (emptied c)) (DidNot TableFails)
+unfoldable pub empty_of : List ℕ → List ℤ → List ℕ → List ℤ → List ℕ → ℕ → Counters → Result Counters Refusal
+empty_of nodes inputs keys lits marks clauses c = cond (table_ok nodes inputs keys lits marks clauses c) (Ok (emptied c)) (Err TableFails)
 
 -- ---- value
 
@@ -104,10 +101,10 @@ unfoldable pub assigned_ok : List ℕ → ℕ → Bool
 assigned_ok a n = leb n (length a) && all_below n (λ i. leb (get_or a i 0) 1)
 
 -- 2 the table, 3 the working area, 4 the node, 14 the assignment
-unfoldable pub worth_answer : Bool → Bool → Bool → Bool → ℕ → Valued
+unfoldable pub worth_answer : Bool → Bool → Bool → Bool → ℕ → Result ℕ Refusal
 worth_answer table work here assigned v =
-    cond table (cond work (cond here (cond assigned (Worth v) (NotValued BadAssignment)) (NotValued NoSuchNode)) (NotValued WorkShort)) (NotValued TableFails)
+    cond table (cond work (cond here (cond assigned (Ok v) (Err BadAssignment)) (Err NoSuchNode)) (Err WorkShort)) (Err TableFails)
 
-unfoldable pub valued_of : List ℕ → List ℤ → List ℕ → List ℤ → List ℕ → ℕ → ℕ → ℕ → Counters → ℕ → List ℕ → Valued
+unfoldable pub valued_of : List ℕ → List ℤ → List ℕ → List ℤ → List ℕ → ℕ → ℕ → ℕ → Counters → ℕ → List ℕ → Result ℕ Refusal
 valued_of nodes inputs keys lits marks clauses ints bytes c id a =
     worth_answer (table_ok nodes inputs keys lits marks clauses c) (work_ok ints bytes c) (ltb id c.nodes) (assigned_ok a (c.first - 1)) (value_of (id + 1) nodes inputs a id)

@@ -1,13 +1,11 @@
 -- 01, "The plain run": "Weighted, value v".
-use Rattle.std.specs.Prelude.{cond, List, ℕ, zero, suc, ◌+◌, ◌-◌, ◌/◌, ◌%◌, eqb, ltb, ℤ, get_or, set}
+use Rattle.std.specs.Prelude.{cond, List, ℕ, zero, suc, ◌+◌, ◌-◌, ◌/◌, ◌%◌, eqb, ltb, ℤ, get_or, set, None, Option, Some}
 use Rattle.paper.specs.Span.{span}
 use Rattle.paper.specs.Rows.{node_at, is_unit, is_general, value_count, con_len, con_val, con_lits}
 use Rattle.paper.specs.Plain.{St, lit_at, taken_lits, taken_next, if_clause, define, just_if, grow, start}
 use Rattle.paper.specs.declared.Node.{Node}
 use Rattle.paper.specs.declared.Want.{Want}
 use Rattle.paper.specs.declared.Clause.{Clause}
-use Rattle.paper.specs.declared.Found.{Found}
-use Rattle.paper.specs.declared.Found.TheVariants.{At, Absent}
 use Rattle.paper.specs.declared.Way.{Way}
 use Rattle.paper.specs.declared.Job.{Job}
 use Rattle.paper.specs.declared.Job.TheVariants.{Nothing, Count, Sum}
@@ -15,19 +13,19 @@ use Rattle.paper.specs.declared.Job.TheVariants.{Nothing, Count, Sum}
 -- ---- outputs by value
 
 -- "search the keys for v": the first of n keys, from the k-th behind `first` on, that is v
-unfoldable pub key_from : List ℕ → ℕ → ℕ → ℕ → ℕ → Found
-key_from keys first v zero k = Absent
-key_from keys first v (suc n) k = cond (eqb (get_or keys (first + k) 0) v) (At k) (key_from keys first v n (k + 1))
+unfoldable pub key_from : List ℕ → ℕ → ℕ → ℕ → ℕ → Option ℕ
+key_from keys first v zero k = None
+key_from keys first v (suc n) k = cond (eqb (get_or keys (first + k) 0) v) (Some k) (key_from keys first v n (k + 1))
 
 -- "Leaf: v = 1 only. Dummy: answer 1. Unit: index v-1 ..; v = 0 or above the count is answer 1. General: search the keys for v, else answer 1."
-unfoldable pub output_of : List ℕ → Node → ℕ → Found
+unfoldable pub output_of : List ℕ → Node → ℕ → Option ℕ
 output_of keys n v =
-    cond (is_general n) (key_from keys n.first v n.count 0) (cond (eqb v 0) Absent (cond (ltb (value_count n) v) Absent (At (v - 1))))
+    cond (is_general n) (key_from keys n.first v n.count 0) (cond (eqb v 0) None (cond (ltb (value_count n) v) None (Some (v - 1))))
 
 -- an output's place, counted from 1; 0 where there is none
-abbrev pub place_of : Found → ℕ
-place_of (At j) = j + 1
-place_of Absent = 0
+abbrev pub place_of : Option ℕ → ℕ
+place_of (Some j) = j + 1
+place_of None = 0
 
 -- the place of the child's output that times the multiplier m is v: "if .. is a multiple of the right multiplier and the quotient is an output"
 unfoldable pub share_of : List ℕ → Node → ℕ → ℕ → ℕ

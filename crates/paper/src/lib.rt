@@ -88,43 +88,18 @@ pub enum Refusal {
     BadVariables,
 }
 
-// The answers. A done call carries the counters after it, where it moves any.
+// What a done call gives back, with the counters after it: the id of the node that is asked for, ..
 #[derive(Clone, Copy)]
-pub enum Begun {
-    Made(Counters),
-    NotMade(Refusal),
+pub struct Added {
+    pub id: usize,
+    pub counters: Counters,
 }
 
+// .. or the literal of the output that is demanded.
 #[derive(Clone, Copy)]
-pub enum Added {
-    Done(usize, Counters),
-    Refused(Refusal),
-}
-
-#[derive(Clone, Copy)]
-pub enum Demanded {
-    Given(i32, Counters),
-    NotGiven(Refusal),
-}
-
-#[derive(Clone, Copy)]
-pub enum Kept {
-    Did(Counters),
-    DidNot(Refusal),
-}
-
-#[derive(Clone, Copy)]
-pub enum Valued {
-    Worth(usize),
-    NotValued(Refusal),
-}
-
-// What a call that adds a leaf or the dummy does: an id that is there already, a new node, or why not.
-#[derive(Clone, Copy)]
-pub enum Choice {
-    Old(usize),
-    New,
-    No(Refusal),
+pub struct Demanded {
+    pub lit: i32,
+    pub counters: Counters,
 }
 
 // The two connections of an inner node that is asked for.
@@ -143,13 +118,6 @@ pub struct Sizes {
     pub keys: usize,
     pub lits: usize,
     pub marks: usize,
-}
-
-// The inner node to be written, or why not.
-#[derive(Clone, Copy)]
-pub enum Planned {
-    Make(Node),
-    Reject(Refusal),
 }
 
 // The counters that a demand moves: the next free variable, and the words of the clause row that are taken.
@@ -198,13 +166,6 @@ pub enum Precond {
     Return,
     Pass(usize, Todo),
     Continue(Ranges, Todo),
-}
-
-// What a lookup of a value finds.
-#[derive(Clone, Copy)]
-pub enum Found {
-    At(usize),
-    Absent,
 }
 
 // A way to make up a value: an output of the left child and one of the right, counted from 1, and 0 for none.

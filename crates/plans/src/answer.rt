@@ -3,7 +3,7 @@ ghost use Rattle.std.specs.Prelude.{◌≡◌};
 ghost use Rattle.paper.specs.Numbers.{number_of};
 
 use crate::Said;
-use paper::{Added, Begun, Counters, Demanded, Kept, Refusal, Valued};
+use paper::{Added, Counters, Demanded, Refusal};
 
 fn refused(why: Refusal, c: Counters) -> Said
     ensures { (result.number ≡ number_of why) × (result.value ≡ 0) × (result.counters ≡ c) }
@@ -27,43 +27,43 @@ fn done(value: usize, c: Counters) -> Said
     }
 }
 
-pub fn begun_said(a: Begun, c: Counters) -> Said {
+pub fn begun_said(a: Result<Counters, Refusal>, c: Counters) -> Said {
     match a {
-        Begun::Made(d) => done(0, d),
-        Begun::NotMade(why) => refused(why, c),
+        Ok(d) => done(0, d),
+        Err(why) => refused(why, c),
     }
 }
 
-pub fn added_said(a: Added, c: Counters) -> Said {
+pub fn added_said(a: Result<Added, Refusal>, c: Counters) -> Said {
     match a {
-        Added::Done(id, d) => done(id, d),
-        Added::Refused(why) => refused(why, c),
+        Ok(d) => done(d.id, d.counters),
+        Err(why) => refused(why, c),
     }
 }
 
-pub fn demanded_said(a: Demanded, c: Counters) -> Said {
+pub fn demanded_said(a: Result<Demanded, Refusal>, c: Counters) -> Said {
     match a {
-        Demanded::Given(x, d) => Said {
+        Ok(d) => Said {
             number: 0,
-            minus: rows::is_negative(x),
-            value: rows::wide(rows::variable(x)),
-            counters: d,
+            minus: rows::is_negative(d.lit),
+            value: rows::wide(rows::variable(d.lit)),
+            counters: d.counters,
         },
-        Demanded::NotGiven(why) => refused(why, c),
+        Err(why) => refused(why, c),
     }
 }
 
-pub fn kept_said(a: Kept, c: Counters) -> Said {
+pub fn kept_said(a: Result<Counters, Refusal>, c: Counters) -> Said {
     match a {
-        Kept::Did(d) => done(0, d),
-        Kept::DidNot(why) => refused(why, c),
+        Ok(d) => done(0, d),
+        Err(why) => refused(why, c),
     }
 }
 
-pub fn valued_said(a: Valued, c: Counters) -> Said {
+pub fn valued_said(a: Result<usize, Refusal>, c: Counters) -> Said {
     match a {
-        Valued::Worth(v) => done(v, c),
-        Valued::NotValued(why) => refused(why, c),
+        Ok(v) => done(v, c),
+        Err(why) => refused(why, c),
     }
 }
 

@@ -1,6 +1,8 @@
 -- What a table that passes the check gives to a run over the parts of its rows that are in use.
+use Rattle.paper.specs.Answers.{gives}
+use Rattle.paper.specs.declared.Refusal.{Refusal}
 use Rattle.std.specs.Prelude.{◌≡◌, List, ◌++◌, ◌⊎◌, ℕ, zero, suc, ◌+◌, ◌*◌, ◌/◌, ◌≤◌, ◌<◌, ◌^◌, max, true, leb, ℤ, pos, negsuc, neg_ℤ, nat_abs, length, get_or, take, drop}
-use Rattle.std.proofs.Common.{sym, ap, ap₂, ◌∙◌, ⊎_elim, arith, ne_eqb, leb-true, take-append-drop, SFits}
+use Rattle.std.proofs.Common.{sym, ap, ap₂, ◌∙◌, ⊎_elim, arith, ne_eqb, leb-true, take-append-drop, SFits, Err, Result, Ok}
 use Rattle.paper.specs.Below.{and_left, and_right}
 use Rattle.paper.specs.Table.{work_ok}
 use Rattle.std.specs.Int.{w32}
@@ -10,7 +12,6 @@ use Rattle.paper.specs.Demand.{nodes_used, inputs_used, cells_used, demanded_row
 use Rattle.paper.specs.declared.Node.{Node}
 use Rattle.paper.specs.declared.Counters.{Counters}
 use Rattle.paper.specs.declared.Demanded.{Demanded}
-use Rattle.paper.specs.declared.Demanded.TheVariants.{Given, NotGiven}
 use Rattle.facts.specs.Facts.{TableFacts, NodeFactsAt, a_leaf, a_dummy, a_unit, a_general, Held}
 use Rattle.facts.proofs.Facts.{words_fit, node_used, used_at, used_length, node_under, leaf_low}
 use Rattle.clause.specs.Row.{Neg}
@@ -88,9 +89,9 @@ module _ (nodes : List ℕ) {inputs : List ℤ} {keys : List ℕ} {lits : List �
       }
 
 -- the part in use comes back before what lay past it
-pub back : {A : Type 0} (r : Demanded) (n : ℕ) (old new part : List A) → part ≡ demanded_row r (take n old) new → part ++ drop n old ≡ demanded_row r old (new ++ drop n old)
-back {A} (Given z c) n old new part e = ap (λ (l : List A). l ++ drop n old) e
-back {A} (NotGiven why) n old new part e = ap (λ (l : List A). l ++ drop n old) e ∙ take-append-drop n old
+pub back : {A : Type 0} (r : Result Demanded Refusal) (n : ℕ) (old new part : List A) → part ≡ demanded_row r (take n old) new → part ++ drop n old ≡ demanded_row r old (new ++ drop n old)
+back {A} (Ok a) n old new part e = ap (λ (l : List A). l ++ drop n old) e
+back {A} (Err why) n old new part e = ap (λ (l : List A). l ++ drop n old) e ∙ take-append-drop n old
 
 -- a working area that is long enough holds the cells in use
 pub work_long : (ints bytes : ℕ) (c : Counters) → work_ok ints bytes c ≡ true → (c.cells ≤ ints) × (c.cells ≤ bytes)

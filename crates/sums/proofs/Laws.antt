@@ -1,4 +1,6 @@
 -- What a table that passes its check gives to a weighted run, and the answers by the tests that lead there.
+use Rattle.paper.specs.declared.Refusal.{Refusal}
+use Rattle.std.specs.Prelude.{Err, None, Result, Some}
 use mathlib.Core.Path.{◌≡◌, sym, ap, ◌∙◌}
 use mathlib.Core.Bool.{true, false}
 use mathlib.Core.List.{List, ◌++◌}
@@ -17,10 +19,8 @@ use Rattle.paper.specs.Weighted.{place_of, weigh_run}
 use Rattle.paper.specs.Demand.{nodes_used, inputs_used, cells_used, room_of, demanded_of, sum_place, sum_run, sum_of, demanded_lits, demanded_marks, demanded_clauses}
 use Rattle.paper.specs.declared.Node.{Node}
 use Rattle.paper.specs.declared.Counters.{Counters}
-use Rattle.paper.specs.declared.Found.TheVariants.{At, Absent}
 use Rattle.paper.specs.declared.Refusal.TheVariants.{NoSuchOutput, TableFails, WorkShort, NoSuchNode}
 use Rattle.paper.specs.declared.Demanded.{Demanded}
-use Rattle.paper.specs.declared.Demanded.TheVariants.{NotGiven}
 use Rattle.facts.specs.Facts.{TableFacts, NodeFactsAt, a_leaf, a_dummy, a_unit, a_general}
 use Rattle.facts.proofs.Facts.{used_at, used_length}
 use Rattle.facts.proofs.Members.{key_ascend}
@@ -97,7 +97,7 @@ module _ (nodes : List ℕ) {inputs : List ℤ} {keys : List ℕ} {lits : List �
       }
 
   -- an output that is found is there
-  pub here_at : (id v j : ℕ) → id < c.nodes → sum_place nodes keys c id v ≡ At j → Here (nodes_used nodes c) id j
+  pub here_at : (id v j : ℕ) → id < c.nodes → sum_place nodes keys c id v ≡ Some j → Here (nodes_used nodes c) id j
   here_at id v j h e =
       let b : id < length (nodes_used nodes c) / node_words = omega (arith, nodes_length nodes t) in
       let p : j + 1 ≡ place_of (sum_place nodes keys c id v) = sym (ap place_of e) in
@@ -113,42 +113,42 @@ work_cells ints bytes c h =
 -- ---- the answers
 
 module _ (nodes : List ℕ) (inputs : List ℤ) (keys : List ℕ) (lits : List ℤ) (marks : List ℕ) (clauses ints bytes : ℕ) (c : Counters) (id v : ℕ) where
-  abbrev said : Demanded
+  abbrev said : Result Demanded Refusal
   said = sum_of nodes inputs keys lits marks clauses ints bytes c id v
 
-  pub fails_table : table_ok nodes inputs keys lits marks clauses c ≡ false → NotGiven TableFails ≡ said
+  pub fails_table : table_ok nodes inputs keys lits marks clauses c ≡ false → Err TableFails ≡ said
   unfolding sum_of demanded_of
   fails_table t = rw t
 
-  pub fails_work : table_ok nodes inputs keys lits marks clauses c ≡ true → work_ok ints bytes c ≡ false → NotGiven WorkShort ≡ said
+  pub fails_work : table_ok nodes inputs keys lits marks clauses c ≡ true → work_ok ints bytes c ≡ false → Err WorkShort ≡ said
   unfolding sum_of demanded_of
   fails_work t w = rw (t, w)
 
   module _ (t : table_ok nodes inputs keys lits marks clauses c ≡ true) (w : work_ok ints bytes c ≡ true) where
-    pub fails_node : c.nodes ≤ id → NotGiven NoSuchNode ≡ said
+    pub fails_node : c.nodes ≤ id → Err NoSuchNode ≡ said
     unfolding sum_of demanded_of
     fails_node h = rw (t, w, le-ltb id c.nodes h)
 
-    pub fails_output : id < c.nodes → sum_place nodes keys c id v ≡ Absent → NotGiven NoSuchOutput ≡ said
+    pub fails_output : id < c.nodes → sum_place nodes keys c id v ≡ None → Err NoSuchOutput ≡ said
     unfolding sum_of demanded_of
     fails_output h e = rw (t, w, lt-ltb id c.nodes h, e)
 
     abbrev run : ℕ → St (List ℤ)
     run j = weigh_run (nodes_used nodes c) (inputs_used inputs c) (cells_used keys c) (cells_used lits c) (cells_used marks c) c.next id (j + 1)
 
-    pub given_at : id < c.nodes → (j : ℕ) → sum_place nodes keys c id v ≡ At j
+    pub given_at : id < c.nodes → (j : ℕ) → sum_place nodes keys c id v ≡ Some j
         → room_of (run j) c clauses (lit_at (con_lits (nodes_used nodes c) (inputs_used inputs c) (run j).lits id) j) ≡ said
     unfolding sum_of demanded_of
     given_at h j e = rw (t, w, lt-ltb id c.nodes h, e)
 
-  pub run_at : (j : ℕ) → sum_place nodes keys c id v ≡ At j
+  pub run_at : (j : ℕ) → sum_place nodes keys c id v ≡ Some j
       → weigh_run (nodes_used nodes c) (inputs_used inputs c) (cells_used keys c) (cells_used lits c) (cells_used marks c) c.next id (j + 1) ≡ sum_run nodes inputs keys lits marks c id v
   run_at j e = rw e
 
 -- a demand that was met, on rows whose parts in use were lent
 module _ (nodes : List ℕ) (inputs : List ℤ) (keys : List ℕ) (lits : List ℤ) (marks : List ℕ) (clauses : List ℤ) (ints bytes : ℕ) (c : Counters) (id v j : ℕ)
-    (t : table_ok nodes inputs keys lits marks (length clauses) c ≡ true) (w : work_ok ints bytes c ≡ true) (h : id < c.nodes) (e : sum_place nodes keys c id v ≡ At j)
-    (r : Demanded) (lits' : List ℤ) (marks' : List ℕ) (clauses' : List ℤ)
+    (t : table_ok nodes inputs keys lits marks (length clauses) c ≡ true) (w : work_ok ints bytes c ≡ true) (h : id < c.nodes) (e : sum_place nodes keys c id v ≡ Some j)
+    (r : Result Demanded Refusal) (lits' : List ℤ) (marks' : List ℕ) (clauses' : List ℤ)
     (met : MetSum (nodes_used nodes c) (inputs_used inputs c) (cells_used keys c) c id j (cells_used lits c) (cells_used marks c) clauses r lits' marks' clauses') where
   abbrev ran : St (List ℤ)
   ran = sum_run nodes inputs keys lits marks c id v

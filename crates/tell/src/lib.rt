@@ -6,7 +6,7 @@ ghost use Rattle.std.specs.Prelude.{◌≡◌, pos};
 ghost use Rattle.paper.specs.Numbers.{number_of, added_said, begun_said, demanded_said, kept_said};
 ghost use Rattle.tell.specs.Tell.{counters_of, numbers_of, semantics_of, Told, WorthTold};
 
-use paper::{Added, Begun, Counters, Demanded, Kept, Refusal, Semantics, Valued};
+use paper::{Added, Counters, Demanded, Refusal, Semantics};
 
 // Document 01's number of a refusal.
 pub fn number_of(why: Refusal) -> u32
@@ -63,31 +63,31 @@ fn put_counters(a: &mut [usize; 7], c: Counters)
 }
 
 // What a call said, told: c are the counters before it.
-pub fn say_begun(said: Begun, c: Counters, counters: &mut [usize; 7]) -> u32
+pub fn say_begun(said: Result<Counters, Refusal>, c: Counters, counters: &mut [usize; 7]) -> u32
     ensures { Told (begun_said said c) result (pos 0) counters.new }
 {
     match said {
-        Begun::Made(after) => {
+        Ok(after) => {
             put_counters(counters, after);
             0
         }
-        Begun::NotMade(why) => {
+        Err(why) => {
             put_counters(counters, c);
             number_of(why)
         }
     }
 }
 
-pub fn say_added(said: Added, c: Counters, counters: &mut [usize; 7], id: &mut usize) -> u32
+pub fn say_added(said: Result<Added, Refusal>, c: Counters, counters: &mut [usize; 7], id: &mut usize) -> u32
     ensures { Told (added_said said c) result (pos id.new) counters.new }
 {
     match said {
-        Added::Done(new, after) => {
-            *id = new;
-            put_counters(counters, after);
+        Ok(done) => {
+            *id = done.id;
+            put_counters(counters, done.counters);
             0
         }
-        Added::Refused(why) => {
+        Err(why) => {
             *id = 0;
             put_counters(counters, c);
             number_of(why)
@@ -95,16 +95,16 @@ pub fn say_added(said: Added, c: Counters, counters: &mut [usize; 7], id: &mut u
     }
 }
 
-pub fn say_demanded(said: Demanded, c: Counters, counters: &mut [usize; 7], lit: &mut i32) -> u32
+pub fn say_demanded(said: Result<Demanded, Refusal>, c: Counters, counters: &mut [usize; 7], lit: &mut i32) -> u32
     ensures { Told (demanded_said said c) result lit.new counters.new }
 {
     match said {
-        Demanded::Given(z, after) => {
-            *lit = z;
-            put_counters(counters, after);
+        Ok(done) => {
+            *lit = done.lit;
+            put_counters(counters, done.counters);
             0
         }
-        Demanded::NotGiven(why) => {
+        Err(why) => {
             *lit = 0;
             put_counters(counters, c);
             number_of(why)
@@ -112,30 +112,30 @@ pub fn say_demanded(said: Demanded, c: Counters, counters: &mut [usize; 7], lit:
     }
 }
 
-pub fn say_kept(said: Kept, c: Counters, counters: &mut [usize; 7]) -> u32
+pub fn say_kept(said: Result<Counters, Refusal>, c: Counters, counters: &mut [usize; 7]) -> u32
     ensures { Told (kept_said said c) result (pos 0) counters.new }
 {
     match said {
-        Kept::Did(after) => {
+        Ok(after) => {
             put_counters(counters, after);
             0
         }
-        Kept::DidNot(why) => {
+        Err(why) => {
             put_counters(counters, c);
             number_of(why)
         }
     }
 }
 
-pub fn say_valued(said: Valued, value: &mut usize) -> u32
+pub fn say_valued(said: Result<usize, Refusal>, value: &mut usize) -> u32
     ensures { WorthTold said result (pos value.new) }
 {
     match said {
-        Valued::Worth(v) => {
+        Ok(v) => {
             *value = v;
             0
         }
-        Valued::NotValued(why) => {
+        Err(why) => {
             *value = 0;
             number_of(why)
         }

@@ -1,3 +1,4 @@
+use Rattle.std.specs.Prelude.{Ok, Some}
 use mathlib.Core.Path.{sym, ap, ◌∙◌}
 use mathlib.Core.Bool.{Bool, ◌&&◌}
 use lib.ListN.{length}
@@ -7,7 +8,6 @@ use mir.Syntax.{w32}
 use mir.ValLaws.{to_z-of_z}
 use Rattle.paper.specs.Rows.{lit_ok}
 use Rattle.paper.specs.Grow.{first_leaf, leaf_plan}
-use Rattle.paper.specs.declared.Choice.TheVariants.{Old}
 use Rattle.choose.proofs.Choose.{table_fails, literal_fails, found_old, makes_new, room_fails}
 use Rattle.choose.proofs.leaf_plan.Goals as goal
 
@@ -26,7 +26,7 @@ unfolding leaf_plan
 returns-then-found-count c =
     let a = c.args in
     let f = (c.find_leaf-found.ensures ∙ ap (λ (z : ℤ). first_leaf a.nodes.now a.inputs.now a.c.nodes z) (to_z-of_z w32 a.x c.ranges.x)) in
-    ap Old f ∙ found_old _ _ _ _ _ (sym c.table_ok.ensures ∙ c.if-not-table_ok.false) (sym (c.literal_ok.ensures ∙ ap (λ (z : ℤ). lit_ok z a.c.first) (to_z-of_z w32 a.x c.ranges.x)) ∙ c.if-not-literal_ok.false) (rw f at c.if-found-count.true)
+    ap Ok (Some f) ∙ found_old _ _ _ _ _ (sym c.table_ok.ensures ∙ c.if-not-table_ok.false) (sym (c.literal_ok.ensures ∙ ap (λ (z : ℤ). lit_ok z a.c.first) (to_z-of_z w32 a.x c.ranges.x)) ∙ c.if-not-literal_ok.false) (rw f at c.if-found-count.true)
 
 pub returns-then-room_for_node-c : goal.returns-then-room_for_node-c
 unfolding leaf_plan

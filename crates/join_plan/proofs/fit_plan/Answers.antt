@@ -1,7 +1,7 @@
+use Rattle.std.specs.Prelude.{Ok}
 use Prim.Native.Nat.{ℕ, ◌+◌}
 use native.Mathlib.Omega.{arith}
 use mathlib.Core.Path.{sym, ap, ◌∙◌}
-use Rattle.paper.specs.declared.Planned.TheVariants.{Make}
 use Rattle.paper.specs.Join.{inner_node}
 use Rattle.join_plan.proofs.Plans.{fit_deep, fit_makes, fit_full}
 use Rattle.join_plan.proofs.fit_plan.Goals as goal
@@ -15,7 +15,7 @@ pub returns-then-room : goal.returns-then-room
 returns-then-room c =
     let a = c.args in
     let e = c.larger-d.ensures in
-    ap (λ (d : ℕ). Make (inner_node a.kind a.j a.c.cells a.count (d + 1))) e ∙ fit_makes a.kind a.j a.l a.r a.c a.count a.s (omega (arith, e)) (sym c.room.ensures ∙ c.if-room.true)
+    ap (λ (d : ℕ). Ok (inner_node a.kind a.j a.c.cells a.count (d + 1))) e ∙ fit_makes a.kind a.j a.l a.r a.c a.count a.s (omega (arith, e)) (sym c.room.ensures ∙ c.if-room.true)
 
 pub returns-else-room : goal.returns-else-room
 returns-else-room c =

@@ -1,3 +1,4 @@
+use Rattle.paper.specs.Answers.{gives}
 use native.Mathlib.Omega.{arith}
 use mathlib.Core.Path.{refl, sym, ap, ◌∙◌}
 use mathlib.Core.List.{List}
@@ -7,7 +8,6 @@ use lib.IntN.{ℤ}
 use Rattle.paper.specs.Rows.{con_lits}
 use Rattle.paper.specs.Plain.{lit_at}
 use Rattle.paper.specs.Weighted.{weigh_run}
-use Rattle.paper.specs.declared.Demanded.TheVariants.{Given}
 use Rattle.runs.proofs.Meets.{no_vars, no_room, all_given}
 use Rattle.runs.specs.Used.{run_of}
 use Rattle.sum.proofs.Laws.{outs_few}
@@ -68,7 +68,7 @@ returns c = let small : length c.args.clauses.now ≤ 2 ^ 62 = omega (arith, c.w
     let n = e.next in
     let w = e.words in
     record {
-      answer = (λ t. Given ((back ∙ z) t) (record { first = c.args.c.first; next = n t; last = c.args.c.last; nodes = c.args.c.nodes; inputs = c.args.c.inputs; cells = c.args.c.cells; words = w t })) ∙ sym (all_given _ _ _ _ v o);
+      answer = (λ t. gives ((back ∙ z) t) (record { first = c.args.c.first; next = n t; last = c.args.c.last; nodes = c.args.c.nodes; inputs = c.args.c.inputs; cells = c.args.c.cells; words = w t })) ∙ sym (all_given _ _ _ _ v o);
       lits_are = e.lits;
       marks_are = e.marks;
       row_is = e.row_is;
