@@ -87,20 +87,21 @@ pub fn leaf(
         × (nodes.new ≡ leaf_nodes (leaf_plan nodes.old inputs.old keys.now lits.now marks.now clauses c x) nodes.old c)
         × (inputs.new ≡ leaf_inputs (leaf_plan nodes.old inputs.old keys.now lits.now marks.now clauses c x) inputs.old c x) }
 {
-    let plan = leaf_plan(nodes, inputs, keys, lits, marks, clauses, c, x)?;
-    if let Some(id) = plan {
-        return Ok(Added { id, counters: c });
+    match leaf_plan(nodes, inputs, keys, lits, marks, clauses, c, x)? {
+        Some(id) => Ok(Added { id, counters: c }),
+        None => {
+            inputs[c.inputs] = x;
+            put_node(nodes, c.nodes, leaf_node(c.inputs));
+            Ok(Added {
+                id: c.nodes,
+                counters: Counters {
+                    nodes: c.nodes + 1,
+                    inputs: c.inputs + 1,
+                    ..c
+                },
+            })
+        }
     }
-    inputs[c.inputs] = x;
-    put_node(nodes, c.nodes, leaf_node(c.inputs));
-    Ok(Added {
-        id: c.nodes,
-        counters: Counters {
-            nodes: c.nodes + 1,
-            inputs: c.inputs + 1,
-            ..c
-        },
-    })
 }
 
 pub fn dummy(
@@ -115,16 +116,17 @@ pub fn dummy(
     ensures { (result ≡ dummy_added (dummy_plan nodes.old inputs.now keys.now lits.now marks.now clauses c) c)
         × (nodes.new ≡ dummy_nodes (dummy_plan nodes.old inputs.now keys.now lits.now marks.now clauses c) nodes.old c) }
 {
-    let plan = dummy_plan(nodes, inputs, keys, lits, marks, clauses, c)?;
-    if let Some(id) = plan {
-        return Ok(Added { id, counters: c });
+    match dummy_plan(nodes, inputs, keys, lits, marks, clauses, c)? {
+        Some(id) => Ok(Added { id, counters: c }),
+        None => {
+            put_node(nodes, c.nodes, dummy_node());
+            Ok(Added {
+                id: c.nodes,
+                counters: Counters {
+                    nodes: c.nodes + 1,
+                    ..c
+                },
+            })
+        }
     }
-    put_node(nodes, c.nodes, dummy_node());
-    Ok(Added {
-        id: c.nodes,
-        counters: Counters {
-            nodes: c.nodes + 1,
-            ..c
-        },
-    })
 }

@@ -1,4 +1,4 @@
-use Rattle.std.specs.Prelude.{Ok, Some}
+use Rattle.std.specs.Prelude.{ℕ, Ok, Some}
 use mathlib.Core.Path.{refl, sym, ap, ◌∙◌}
 use Rattle.paper.specs.Grow.{dummy_plan}
 use Rattle.choose.proofs.Choose.{table_fails, found_old, makes_new, room_fails}
@@ -12,7 +12,7 @@ pub returns-then-there-count : goal.returns-then-there-count
 unfolding dummy_plan
 returns-then-there-count c =
     let f = c.find_dummy-there.ensures in
-    ap Ok (Some f) ∙ found_old _ _ _ _ _ (sym c.table_ok.ensures ∙ c.if-not-table_ok.false) refl (rw f at c.if-there-count.true)
+    ap (λ (k : ℕ). Ok (Some k)) f ∙ found_old _ _ _ _ _ (sym c.table_ok.ensures ∙ c.if-not-table_ok.false) refl (rw f at c.if-there-count.true)
 
 pub returns-then-room_for_node : goal.returns-then-room_for_node
 unfolding dummy_plan

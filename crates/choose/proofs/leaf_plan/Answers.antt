@@ -1,4 +1,4 @@
-use Rattle.std.specs.Prelude.{Ok, Some}
+use Rattle.std.specs.Prelude.{ℕ, Ok, Some}
 use mathlib.Core.Path.{sym, ap, ◌∙◌}
 use mathlib.Core.Bool.{Bool, ◌&&◌}
 use lib.ListN.{length}
@@ -26,7 +26,7 @@ unfolding leaf_plan
 returns-then-found-count c =
     let a = c.args in
     let f = (c.find_leaf-found.ensures ∙ ap (λ (z : ℤ). first_leaf a.nodes.now a.inputs.now a.c.nodes z) (to_z-of_z w32 a.x c.ranges.x)) in
-    ap Ok (Some f) ∙ found_old _ _ _ _ _ (sym c.table_ok.ensures ∙ c.if-not-table_ok.false) (sym (c.literal_ok.ensures ∙ ap (λ (z : ℤ). lit_ok z a.c.first) (to_z-of_z w32 a.x c.ranges.x)) ∙ c.if-not-literal_ok.false) (rw f at c.if-found-count.true)
+    ap (λ (k : ℕ). Ok (Some k)) f ∙ found_old _ _ _ _ _ (sym c.table_ok.ensures ∙ c.if-not-table_ok.false) (sym (c.literal_ok.ensures ∙ ap (λ (z : ℤ). lit_ok z a.c.first) (to_z-of_z w32 a.x c.ranges.x)) ∙ c.if-not-literal_ok.false) (rw f at c.if-found-count.true)
 
 pub returns-then-room_for_node-c : goal.returns-then-room_for_node-c
 unfolding leaf_plan
