@@ -1,5 +1,4 @@
 -- What a table that passes the check gives to a run over the parts of its rows that are in use.
-use Rattle.paper.specs.Answers.{gives}
 use Rattle.paper.specs.declared.Refusal.{Refusal}
 use Rattle.std.specs.Prelude.{◌≡◌, List, ◌++◌, ◌⊎◌, ℕ, zero, suc, ◌+◌, ◌*◌, ◌/◌, ◌≤◌, ◌<◌, ◌^◌, max, true, leb, ℤ, pos, negsuc, neg_ℤ, nat_abs, length, get_or, take, drop}
 use Rattle.std.proofs.Common.{sym, ap, ap₂, ◌∙◌, ⊎_elim, arith, ne_eqb, leb-true, take-append-drop, SFits, Err, Result, Ok}
@@ -15,7 +14,7 @@ use Rattle.paper.specs.declared.Demanded.{Demanded}
 use Rattle.facts.specs.Facts.{TableFacts, NodeFactsAt, a_leaf, a_dummy, a_unit, a_general, Held}
 use Rattle.facts.proofs.Facts.{words_fit, node_used, used_at, used_length, node_under, leaf_low}
 use Rattle.clause.specs.Row.{Neg}
-use Rattle.count.specs.Run.{UnitOk, Ok, Fit}
+use Rattle.count.specs.Run.{UnitOk, Ok as RowsOk, Fit}
 use Rattle.runs.specs.Used.{run_of}
 
 -- a literal's negation, with its variable below 2 ^ 31
@@ -59,7 +58,7 @@ module _ (nodes : List ℕ) {inputs : List ℤ} {keys : List ℕ} {lits : List �
             sum = rw (same_node k h) (g.sum ∙ ap₂ (λ (x y : Node). value_count x + value_count y) (sym l) (sym r));
           }
 
-  ok_of : Ok (nodes_used nodes c) (length (inputs_used inputs c)) (length (cells_used lits c))
+  ok_of : RowsOk (nodes_used nodes c) (length (inputs_used inputs c)) (length (cells_used lits c))
   ok_of =
       record {
         unit = unit_of;

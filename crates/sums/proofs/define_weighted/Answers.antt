@@ -94,14 +94,14 @@ pub copy_and_meet-requires-clause-ready : goal.copy_and_meet-requires-clause-rea
 copy_and_meet-requires-clause-ready c = let t = sym c.table_ok.ensures ∙ c.if-not-table_ok.false in
     let w = sym c.work_ok.ensures ∙ c.if-not-work_ok.false in
     let f = table_facts _ _ _ _ _ _ _ _ t in
-    let e : sum_place c.args.nodes.now c.args.keys.now c.args.c c.args.id c.args.v ≡ Some c.in-At.j = sym (c.output_of.ensures ∙ ap (λ (n : Node). output_of (cells_used c.args.keys.now c.args.c) n c.args.v) c.node_at-n.ensures) ∙ c.in-At.is in
+    let e : sum_place c.args.nodes.now c.args.keys.now c.args.c c.args.id c.args.v ≡ Some c.in-Some.j = sym (c.output_of.ensures ∙ ap (λ (n : Node). output_of (cells_used c.args.keys.now c.args.c) n c.args.v) c.node_at-n.ensures) ∙ c.in-Some.is in
     let a = work_cells _ _ _ w in ready_of c.args.nodes.now f (omega (arith, c.well_formed.1.1.1.1.1.0))
 
 pub copy_and_meet-requires-clause-here : goal.copy_and_meet-requires-clause-here
 copy_and_meet-requires-clause-here c = let t = sym c.table_ok.ensures ∙ c.if-not-table_ok.false in
     let w = sym c.work_ok.ensures ∙ c.if-not-work_ok.false in
     let f = table_facts _ _ _ _ _ _ _ _ t in
-    let e : sum_place c.args.nodes.now c.args.keys.now c.args.c c.args.id c.args.v ≡ Some c.in-At.j = sym (c.output_of.ensures ∙ ap (λ (n : Node). output_of (cells_used c.args.keys.now c.args.c) n c.args.v) c.node_at-n.ensures) ∙ c.in-At.is in
+    let e : sum_place c.args.nodes.now c.args.keys.now c.args.c c.args.id c.args.v ≡ Some c.in-Some.j = sym (c.output_of.ensures ∙ ap (λ (n : Node). output_of (cells_used c.args.keys.now c.args.c) n c.args.v) c.node_at-n.ensures) ∙ c.in-Some.is in
     let a = work_cells _ _ _ w in here_at c.args.nodes.now f (omega (arith, c.well_formed.1.1.1.1.1.0)) c.args.id c.args.v _ (omega (arith, c.if-c-id.false)) e
 
 pub copy_and_meet-requires-clause-ints_len : goal.copy_and_meet-requires-clause-ints_len
@@ -113,4 +113,4 @@ copy_and_meet-requires-clause-ints_len c = let t = sym c.table_ok.ensures ∙ c.
 pub returns-clause-value : goal.returns-clause-value
 returns-clause-value c = let t = sym c.table_ok.ensures ∙ c.if-not-table_ok.false in
     let w = sym c.work_ok.ensures ∙ c.if-not-work_ok.false in
-    let e : sum_place c.args.nodes.now c.args.keys.now c.args.c c.args.id c.args.v ≡ Some c.in-At.j = sym (c.output_of.ensures ∙ ap (λ (n : Node). output_of (cells_used c.args.keys.now c.args.c) n c.args.v) c.node_at-n.ensures) ∙ c.in-At.is in met_answer c.args.nodes.now c.args.inputs.now c.args.keys.now c.args.lits.now c.args.marks.now c.args.clauses.now (length c.args.ints.now) (length c.args.bytes.now) c.args.c c.args.id c.args.v _ t w (omega (arith, c.if-c-id.false)) e _ _ _ _ c.copy_and_meet.ensures
+    let e : sum_place c.args.nodes.now c.args.keys.now c.args.c c.args.id c.args.v ≡ Some c.in-Some.j = sym (c.output_of.ensures ∙ ap (λ (n : Node). output_of (cells_used c.args.keys.now c.args.c) n c.args.v) c.node_at-n.ensures) ∙ c.in-Some.is in met_answer c.args.nodes.now c.args.inputs.now c.args.keys.now c.args.lits.now c.args.marks.now c.args.clauses.now (length c.args.ints.now) (length c.args.bytes.now) c.args.c c.args.id c.args.v _ t w (omega (arith, c.if-c-id.false)) e _ _ _ _ c.copy_and_meet.ensures
