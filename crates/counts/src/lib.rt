@@ -74,16 +74,14 @@ fn run_twice(
     };
     let ran = define_unweighted_rec(nodes, inputs, lits, marks, clauses, id, i, want, run);
     let lit = literal_at(nodes, inputs, lits, id, i);
-    let after = Counters {
-        first: c.first,
-        next: ran.next,
-        last: c.last,
-        nodes: c.nodes,
-        inputs: c.inputs,
-        cells: c.cells,
-        words: ran.words,
-    };
-    Ok(Demanded { lit: lit, counters: after })
+    Ok(Demanded {
+        lit,
+        counters: Counters {
+            next: ran.next,
+            words: ran.words,
+            ..c
+        },
+    })
 }
 
 // The demand on the rows in use, with a working area that is long enough. No answer depends on what it held.

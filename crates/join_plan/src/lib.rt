@@ -30,7 +30,15 @@ pub fn muls_ok(j: Pair, plain: bool) -> bool
 }
 
 // Depth, then room.
-fn fit_plan(kind: usize, j: Pair, l: Node, r: Node, c: Counters, count: usize, s: Sizes) -> Result<Node, Refusal>
+fn fit_plan(
+    kind: usize,
+    j: Pair,
+    l: Node,
+    r: Node,
+    c: Counters,
+    count: usize,
+    s: Sizes,
+) -> Result<Node, Refusal>
     ensures { result ≡ fit_plan kind j l r c count s }
 {
     let d = rows::larger(l.depth, r.depth);
@@ -63,7 +71,14 @@ fn unit_plan(j: Pair, l: Node, r: Node, c: Counters, s: Sizes) -> Result<Node, R
 
 // 8 from the two counts, 9 from the two largest values, then the fit. A count of more cells than are left is told by one more
 // than those.
-fn general_plan(keys: &[u32], j: Pair, l: Node, r: Node, c: Counters, s: Sizes) -> Result<Node, Refusal>
+fn general_plan(
+    keys: &[u32],
+    j: Pair,
+    l: Node,
+    r: Node,
+    c: Counters,
+    s: Sizes,
+) -> Result<Node, Refusal>
     requires lmul_le_mul_limit { (j.lmul ≤ mul_limit) × (j.rmul ≤ mul_limit) × (c.cells ≤ cell_limit) }
     requires mono { (Mono (con_len l) (λ k. value_at keys.now l k)) × (Mono (con_len r) (λ k. value_at keys.now r k)) }
     ensures { result ≡ general_plan keys.now j l r c s }

@@ -78,7 +78,12 @@ pub fn say_begun(said: Result<Counters, Refusal>, c: Counters, counters: &mut [u
     }
 }
 
-pub fn say_added(said: Result<Added, Refusal>, c: Counters, counters: &mut [usize; 7], id: &mut usize) -> u32
+pub fn say_added(
+    said: Result<Added, Refusal>,
+    c: Counters,
+    counters: &mut [usize; 7],
+    id: &mut usize,
+) -> u32
     ensures { Told (added_said said c) result (pos id.new) counters.new }
 {
     match said {
@@ -95,7 +100,12 @@ pub fn say_added(said: Result<Added, Refusal>, c: Counters, counters: &mut [usiz
     }
 }
 
-pub fn say_demanded(said: Result<Demanded, Refusal>, c: Counters, counters: &mut [usize; 7], lit: &mut i32) -> u32
+pub fn say_demanded(
+    said: Result<Demanded, Refusal>,
+    c: Counters,
+    counters: &mut [usize; 7],
+    lit: &mut i32,
+) -> u32
     ensures { Told (demanded_said said c) result lit.new counters.new }
 {
     match said {

@@ -18,9 +18,9 @@ pub returns-then-not-work_ok : goal.returns-then-not-work_ok
 unfolding reserve_of
 returns-then-not-work_ok c = (reserve_no_work _ _ _ _ _ (sym c.table_ok.ensures ∙ c.if-not-table_ok.false) (sym c.work_ok.ensures ∙ c.if-not-work_ok.true), refl)
 
-pub returns-then-c-id : goal.returns-then-c-id
+pub returns-then-count-id : goal.returns-then-count-id
 unfolding reserve_of
-returns-then-c-id c = (reserve_no_node _ _ _ _ _ (sym c.table_ok.ensures ∙ c.if-not-table_ok.false) (sym c.work_ok.ensures ∙ c.if-not-work_ok.false) (le-ltb _ _ c.if-c-id.true), refl)
+returns-then-count-id c = (reserve_no_node _ _ _ _ _ (sym c.table_ok.ensures ∙ c.if-not-table_ok.false) (sym c.work_ok.ensures ∙ c.if-not-work_ok.false) (le-ltb _ _ c.if-count-id.true), refl)
 
 pub dry_run-d-requires-clause-id_lt_count : goal.dry_run-d-requires-clause-id_lt_count
 dry_run-d-requires-clause-id_lt_count c =
@@ -29,7 +29,7 @@ dry_run-d-requires-clause-id_lt_count c =
     let fits : Table c.args.nodes.now c.args.lits.now c.args.c = table_gives _ _ _ _ _ _ _ checked in
     let area : Work (length c.args.ints.now) (length c.args.bytes.now) c.args.c = work_gives _ _ _ worked in
     let g = fits in
-    let k = area in (c.if-c-id.false, k.nodes, g.row, k.cells, g.few)
+    let k = area in (c.if-count-id.false, k.nodes, g.row, k.cells, g.few)
 
 pub dry_run-d-requires-clause-shape : goal.dry_run-d-requires-clause-shape
 dry_run-d-requires-clause-shape c =
@@ -60,7 +60,7 @@ returns-then-c-from c =
     let worked : work_ok (length c.args.ints.now) (length c.args.bytes.now) c.args.c ≡ true = sym c.work_ok.ensures ∙ c.if-not-work_ok.false in
     let fits : Table c.args.nodes.now c.args.lits.now c.args.c = table_gives _ _ _ _ _ _ _ checked in
     let g = fits in (
-      reserve_no_vars _ _ _ _ _ checked worked (lt-ltb _ _ c.if-c-id.false)
+      reserve_no_vars _ _ _ _ _ checked worked (lt-ltb _ _ c.if-count-id.false)
           (no_room c.args.nodes.now c.args.lits.now c.args.id c.args.c.next c.dry_run-d.result c.args.c.last g.some g.next_high c.if-c-from.true c.dry_run-d.ensures),
       refl,
     )
@@ -80,7 +80,7 @@ reserve_node-next-requires-clause-id_lt_count c =
     let enough : (reserved_by c.args.nodes.now c.args.lits.now c.args.id c.args.c.next).next ≤ c.args.c.last + 1 = let g = fits in let d = c.dry_run-d in let h : d.result - 1 ≤ c.args.c.last + 1 - c.args.c.next = omega (arith, c.if-c-from.false) in room_real c.args.nodes.now c.args.lits.now c.args.id c.args.c.next d.result c.args.c.last g.some g.last_high g.next_high h d.ensures in
     let g = fits in
     let k = area in
-    let m = enough in (c.if-c-id.false, omega (arith, k.nodes, c.dry_run-d.auto.flags, c.clear.auto.row), g.some)
+    let m = enough in (c.if-count-id.false, omega (arith, k.nodes, c.dry_run-d.auto.flags, c.clear.auto.row), g.some)
 
 pub reserve_node-next-requires-clause-shape : goal.reserve_node-next-requires-clause-shape
 reserve_node-next-requires-clause-shape c =
@@ -108,4 +108,4 @@ returns c =
     let fits : Table c.args.nodes.now c.args.lits.now c.args.c = table_gives _ _ _ _ _ _ _ checked in
     let enough : (reserved_by c.args.nodes.now c.args.lits.now c.args.id c.args.c.next).next ≤ c.args.c.last + 1 = let g = fits in let d = c.dry_run-d in let h : d.result - 1 ≤ c.args.c.last + 1 - c.args.c.next = omega (arith, c.if-c-from.false) in room_real c.args.nodes.now c.args.lits.now c.args.id c.args.c.next d.result c.args.c.last g.some g.last_high g.next_high h d.ensures in
     let is = c.reserve_node-next.ensures.is (c.args.id + 1) (omega arith) in
-    (reserved _ _ _ c.args.c _ _ _ checked worked (lt-ltb _ _ c.if-c-id.false) enough is, ap (λ (u : Stock). u.lits) is)
+    (reserved _ _ _ c.args.c _ _ _ checked worked (lt-ltb _ _ c.if-count-id.false) enough is, ap (λ (u : Stock). u.lits) is)

@@ -26,16 +26,16 @@ pub returns-then-not-assigned : goal.returns-then-not-assigned
 unfolding valued_of
 returns-then-not-assigned c = value_no_assignment _ _ _ _ _ (sym c.table_ok.ensures ∙ c.if-not-table_ok.false) (sym c.work_ok.ensures ∙ c.if-not-work_ok.false) (lt-ltb _ _ c.if-c-id.false) (sym c.assigned.ensures ∙ c.if-not-assigned.true)
 
-pub values-v-requires-clause-id_in_bounds : goal.values-v-requires-clause-id_in_bounds
-values-v-requires-clause-id_in_bounds c = let t = (sym c.table_ok.ensures ∙ c.if-not-table_ok.false) in
+pub values-requires-clause-id_in_bounds : goal.values-requires-clause-id_in_bounds
+values-requires-clause-id_in_bounds c = let t = (sym c.table_ok.ensures ∙ c.if-not-table_ok.false) in
     let h = c.if-c-id.false in
     let w = (work_gives _ _ _ (sym c.work_ok.ensures ∙ c.if-not-work_ok.false)).ids in (omega (arith, h, w), omega (arith, h, (table_facts _ _ _ _ _ _ _ _ t).counters.node_limit_met))
 
-pub values-v-requires-clause-sound : goal.values-v-requires-clause-sound
-values-v-requires-clause-sound c = let t = (sym c.table_ok.ensures ∙ c.if-not-table_ok.false) in
+pub values-requires-clause-sound : goal.values-requires-clause-sound
+values-requires-clause-sound c = let t = (sym c.table_ok.ensures ∙ c.if-not-table_ok.false) in
     let h = c.if-c-id.false in
     sound _ _ _ _ _ _ _ t _ _ h
 
 pub returns : goal.returns
 unfolding valued_of
-returns c = valued _ _ _ _ _ _ (sym c.table_ok.ensures ∙ c.if-not-table_ok.false) (sym c.work_ok.ensures ∙ c.if-not-work_ok.false) (lt-ltb _ _ c.if-c-id.false) (sym c.assigned.ensures ∙ c.if-not-assigned.false) c.values-v.ensures
+returns c = valued _ _ _ _ _ _ (sym c.table_ok.ensures ∙ c.if-not-table_ok.false) (sym c.work_ok.ensures ∙ c.if-not-work_ok.false) (lt-ltb _ _ c.if-c-id.false) (sym c.assigned.ensures ∙ c.if-not-assigned.false) c.values.ensures
