@@ -15,22 +15,6 @@ use rows::{node_at, value_count};
 use runs::{copy_lits, copy_marks, literal_at};
 use table::{table_ok, work_ok};
 
-fn want_of(s: Semantics) -> Want
-    ensures { result ≡ want_of s }
-{
-    match s {
-        Semantics::If => Want {
-            fi: true,
-            fo: false,
-        },
-        Semantics::OnlyIf => Want {
-            fi: false,
-            fo: true,
-        },
-        Semantics::IfAndOnlyIf => Want { fi: true, fo: true },
-    }
-}
-
 // The working rows hold copies of lits and marks. A dry run on them, from variable 1 and with a clause row that is full,
 // writes nothing else and counts: so 12 and 13 are told before anything is changed.
 fn run_twice(
@@ -160,7 +144,7 @@ pub fn define_unweighted(
     if value_count(n) <= i {
         return Err(Refusal::NoSuchOutput);
     }
-    let want = want_of(semantics);
+    let want = Want::from(semantics);
     let words = c.nodes * NODE_WORDS;
     let leaves = c.inputs;
     let cells = c.cells;

@@ -2,6 +2,10 @@
 // written down as definitions that compute; the code that meets them is in the crates above this one.
 #![tactic(auto)]
 
+ghost use Rattle.std.specs.Prelude.{◌≡◌};
+ghost use Rattle.paper.specs.Numbers.{number_of, semantics_of, counters_of, numbers_of};
+ghost use Rattle.paper.specs.Plain.{want_of};
+
 // "Limits: 4,096 nodes; 16,384 cells; depth 64; multiplier 1 to 65,535; key at most 2,147,483,647."
 // specs/Limits.antt names the same numbers for the definitions.
 pub const NODE_LIMIT: usize = 4096;
@@ -31,6 +35,32 @@ pub struct Counters {
     pub words: usize,
 }
 
+// The counters as other languages have them: first, next, last, nodes, inputs, cells, words.
+impl From<[usize; 7]> for Counters {
+    ghost from_gives = { λ a c. c ≡ counters_of a };
+
+    fn from(a: [usize; 7]) -> Counters {
+        let [first, next, last, nodes, inputs, cells, words] = a;
+        Counters {
+            first,
+            next,
+            last,
+            nodes,
+            inputs,
+            cells,
+            words,
+        }
+    }
+}
+
+impl From<Counters> for [usize; 7] {
+    ghost from_gives = { λ c a. a ≡ numbers_of c };
+
+    fn from(c: Counters) -> [usize; 7] {
+        [c.first, c.next, c.last, c.nodes, c.inputs, c.cells, c.words]
+    }
+}
+
 // The eight words of a node. kind: 0 leaf, 1 unit, 2 general, 3 dummy.
 #[derive(Clone, Copy)]
 pub struct Node {
@@ -52,6 +82,20 @@ pub enum Semantics {
     IfAndOnlyIf,
 }
 
+// 1 asks for If, 2 for OnlyIf, and any other number for both, so that a wrong number never asks for less.
+impl From<u32> for Semantics {
+    ghost from_gives = { λ n s. s ≡ semantics_of n };
+
+    #[tactic(auto, unfolding(crate::specs::Numbers::semantics_of))]
+    fn from(demand: u32) -> Semantics {
+        match demand {
+            1 => Semantics::If,
+            2 => Semantics::OnlyIf,
+            _ => Semantics::IfAndOnlyIf,
+        }
+    }
+}
+
 // What has been asked for at a cell, as the crate's `LitData` keeps it. In the row: 0, 1, 2, 3.
 #[derive(Clone, Copy)]
 pub enum Mark {
@@ -66,6 +110,25 @@ pub enum Mark {
 pub struct Want {
     pub fi: bool,
     pub fo: bool,
+}
+
+impl From<Semantics> for Want {
+    ghost from_gives = { λ s w. w ≡ want_of s };
+
+    #[tactic(auto, unfolding(crate::specs::Plain::want_of))]
+    fn from(s: Semantics) -> Want {
+        match s {
+            Semantics::If => Want {
+                fi: true,
+                fo: false,
+            },
+            Semantics::OnlyIf => Want {
+                fi: false,
+                fo: true,
+            },
+            Semantics::IfAndOnlyIf => Want { fi: true, fo: true },
+        }
+    }
 }
 
 // Why a call is refused. specs/Numbers.antt has document 01's number for each.
@@ -86,6 +149,31 @@ pub enum Refusal {
     ClausesShort,
     BadAssignment,
     BadVariables,
+}
+
+// The paper's number of a refusal.
+impl From<Refusal> for u32 {
+    ghost from_gives = { λ why n. n ≡ number_of why };
+
+    fn from(why: Refusal) -> u32 {
+        match why {
+            Refusal::NoSuchOutput => 1,
+            Refusal::TableFails => 2,
+            Refusal::WorkShort => 3,
+            Refusal::NoSuchNode => 4,
+            Refusal::GeneralNode => 5,
+            Refusal::BadLiteral => 6,
+            Refusal::BadMultiplier => 7,
+            Refusal::NoValue => 8,
+            Refusal::KeyTooLarge => 9,
+            Refusal::TooDeep => 10,
+            Refusal::NoRoom => 11,
+            Refusal::VariablesOut => 12,
+            Refusal::ClausesShort => 13,
+            Refusal::BadAssignment => 14,
+            Refusal::BadVariables => 15,
+        }
+    }
 }
 
 // What a done call gives back, with the counters after it: the id of the node that is asked for, ..

@@ -9,7 +9,7 @@ fn refused(why: Refusal, c: Counters) -> Said
     ensures { (result.number ≡ number_of why) × (result.value ≡ 0) × (result.counters ≡ c) }
 {
     Said {
-        number: tell::number_of(why) as usize,
+        number: u32::from(why) as usize,
         minus: false,
         value: 0,
         counters: c,

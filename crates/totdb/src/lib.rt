@@ -6,10 +6,11 @@
 ghost use Rattle.std.specs.Prelude.{◌≡◌, pos};
 ghost use Rattle.paper.specs.Calls.{Db, check_call, fresh_step, unweighted_call, weighted_call, value_call, empty_call};
 ghost use Rattle.door.specs.Door.{db, work};
-ghost use Rattle.tell.specs.Tell.{counters_of, semantics_of, Told, ValueTold};
+ghost use Rattle.paper.specs.Numbers.{counters_of, semantics_of};
+ghost use Rattle.tell.specs.Tell.{Told, ValueTold};
 ghost use Rattle.totdb.specs.Foreign.{pair_of, LeafTold, DummyTold, InnerTold, DemandTold, ReserveTold, ResetTold};
 
-use paper::Pair;
+use paper::{Counters, Pair, Semantics};
 
 // The table check: 0 or 2.
 pub fn totdb_check(
@@ -23,7 +24,7 @@ pub fn totdb_check(
 ) -> u32
     ensures { result ≡ (check_call (db nodes.now inputs.now keys.now lits.now marks.now clauses.now (counters_of counters.now))).said.number }
 {
-    let c = tell::counters_of(counters);
+    let c = Counters::from(*counters);
     if door::check(nodes, inputs, keys, lits, marks, clauses, c) {
         0
     } else {
@@ -35,9 +36,9 @@ pub fn totdb_check(
 pub fn totdb_fresh(counters: &mut [usize; 7], first: usize, last: usize) -> u32
     ensures { (d : Db) → d.counters ≡ counters_of counters.old → Told (fresh_step d first last).said result (pos 0) counters.new }
 {
-    let c = tell::counters_of(counters);
+    let c = Counters::from(*counters);
     let said = door::fresh(first, last);
-    tell::say_begun(said, c, counters)
+    tell::say_kept(said, c, counters)
 }
 
 // Gives the leaf's id. 2, 6, 11.
@@ -55,7 +56,7 @@ pub fn totdb_leaf(
     ensures { LeafTold (db nodes.old inputs.old keys.now lits.now marks.now clauses.now (counters_of counters.old)) x
         result id.new counters.new nodes.new inputs.new }
 {
-    let c = tell::counters_of(counters);
+    let c = Counters::from(*counters);
     let said = door::leaf(nodes, inputs, keys, lits, marks, clauses, c, x);
     tell::say_added(said, c, counters, id)
 }
@@ -74,7 +75,7 @@ pub fn totdb_dummy(
     ensures { DummyTold (db nodes.old inputs.now keys.now lits.now marks.now clauses.now (counters_of counters.old))
         result id.new counters.new nodes.new }
 {
-    let c = tell::counters_of(counters);
+    let c = Counters::from(*counters);
     let said = door::dummy(nodes, inputs, keys, lits, marks, clauses, c);
     tell::say_added(said, c, counters, id)
 }
@@ -97,7 +98,7 @@ pub fn totdb_inner(
     ensures { InnerTold (db nodes.old inputs.now keys.old lits.old marks.old clauses.now (counters_of counters.old)) (pair_of left lmul right rmul)
         result id.new counters.new nodes.new keys.new lits.new marks.new }
 {
-    let c = tell::counters_of(counters);
+    let c = Counters::from(*counters);
     let said = door::inner(
         nodes,
         inputs,
@@ -116,7 +117,7 @@ pub fn totdb_inner(
     tell::say_added(said, c, counters, id)
 }
 
-// Gives the output's literal. `demand` as `tell::semantics_of` has it. 2, 3, 4, 5, 1, 12, 13.
+// Gives the output's literal. `demand`: 1 If, 2 OnlyIf, any other both. 2, 3, 4, 5, 1, 12, 13.
 pub fn totdb_define_unweighted(
     nodes: &[u32],
     inputs: &[i32],
@@ -135,8 +136,8 @@ pub fn totdb_define_unweighted(
     ensures { DemandTold (unweighted_call (db nodes.now inputs.now keys.now lits.old marks.old clauses.old (counters_of counters.old))
         (work ints.old bytes.old) id i (semantics_of demand)) result lit.new counters.new lits.new marks.new clauses.new }
 {
-    let c = tell::counters_of(counters);
-    let semantics = tell::semantics_of(demand);
+    let c = Counters::from(*counters);
+    let semantics = Semantics::from(demand);
     let said = door::define_unweighted(
         nodes, inputs, keys, lits, marks, clauses, ints, bytes, c, id, i, semantics,
     );
@@ -161,7 +162,7 @@ pub fn totdb_define_weighted(
     ensures { DemandTold (weighted_call (db nodes.now inputs.now keys.now lits.old marks.old clauses.old (counters_of counters.old))
         (work ints.old bytes.old) id v) result lit.new counters.new lits.new marks.new clauses.new }
 {
-    let c = tell::counters_of(counters);
+    let c = Counters::from(*counters);
     let said = door::define_weighted(
         nodes, inputs, keys, lits, marks, clauses, ints, bytes, c, id, v,
     );
@@ -184,7 +185,7 @@ pub fn totdb_reserve_vars(
     ensures { ReserveTold (db nodes.now inputs.now keys.now lits.old marks.now clauses.now (counters_of counters.old)) (work ints.old bytes.old) id
         result counters.new lits.new }
 {
-    let c = tell::counters_of(counters);
+    let c = Counters::from(*counters);
     let said = door::reserve_vars(
         nodes, inputs, keys, lits, marks, clauses, ints, bytes, c, id,
     );
@@ -209,7 +210,7 @@ pub fn totdb_value(
     ensures { ValueTold (value_call (db nodes.now inputs.now keys.now lits.now marks.now clauses.now (counters_of counters.now)) (work ints.old bytes.old) id assign.now).said
         result (pos value.new) }
 {
-    let c = tell::counters_of(counters);
+    let c = Counters::from(*counters);
     let said = door::value(
         nodes, inputs, keys, lits, marks, clauses, ints, bytes, c, id, assign,
     );
@@ -229,7 +230,7 @@ pub fn totdb_reset(
     ensures { ResetTold (db nodes.now inputs.now keys.now lits.now marks.old clauses.now (counters_of counters.old))
         result counters.new marks.new }
 {
-    let c = tell::counters_of(counters);
+    let c = Counters::from(*counters);
     let said = door::reset(nodes, inputs, keys, lits, marks, clauses, c);
     tell::say_kept(said, c, counters)
 }
@@ -247,7 +248,7 @@ pub fn totdb_empty_clauses(
     ensures { Told (empty_call (db nodes.now inputs.now keys.now lits.now marks.now clauses.now (counters_of counters.old))).said
         result (pos 0) counters.new }
 {
-    let c = tell::counters_of(counters);
+    let c = Counters::from(*counters);
     let said = door::empty_clauses(nodes, inputs, keys, lits, marks, clauses, c);
     tell::say_kept(said, c, counters)
 }

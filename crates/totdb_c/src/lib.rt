@@ -5,7 +5,8 @@
 ghost use Rattle.std.specs.Prelude.{◌≡◌, pos};
 ghost use Rattle.paper.specs.Calls.{Db, check_call, fresh_step, unweighted_call, weighted_call, value_call, empty_call};
 ghost use Rattle.door.specs.Door.{db, work};
-ghost use Rattle.tell.specs.Tell.{counters_of, semantics_of, Told, ValueTold};
+ghost use Rattle.paper.specs.Numbers.{counters_of, semantics_of};
+ghost use Rattle.tell.specs.Tell.{Told, ValueTold};
 ghost use Rattle.totdb.specs.Foreign.{pair_of, LeafTold, DummyTold, InnerTold, DemandTold, ReserveTold, ResetTold};
 
 // The table check: 0 or 2.
@@ -93,7 +94,7 @@ pub extern "C" fn totdb_inner(
     )
 }
 
-// Gives the output's literal. `demand` as `tell::semantics_of` has it. 2, 3, 4, 5, 1, 12, 13.
+// Gives the output's literal. `demand`: 1 If, 2 OnlyIf, any other both. 2, 3, 4, 5, 1, 12, 13.
 #[unsafe(no_mangle)]
 pub extern "C" fn totdb_define_unweighted(
     nodes: &[u32],
