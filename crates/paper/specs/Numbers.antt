@@ -1,5 +1,4 @@
 -- 01, "Numbers given back": the number of each refusal; of each answer its number, and the id, literal or value given back, which is 0 where it is refused.
-use Rattle.paper.specs.Answers.{adds, gives}
 use Rattle.std.specs.Prelude.{ℕ, ℤ, pos, List, [], ◌∷◌, cond, eqb, get_or, Err, Ok, Result}
 use Rattle.paper.specs.declared.Counters.{Counters}
 use Rattle.paper.specs.declared.Refusal.{Refusal}
