@@ -7,7 +7,7 @@ ghost use Rattle.paper.specs.Rows.{node_at, con_len};
 ghost use Rattle.paper.specs.Weighted.{key_from, output_of, share_of, joined, way_two, way_of, job_of};
 ghost use Rattle.find.specs.Ways.{Rising, Sorted, Muls, Place, Cut, Pairing};
 
-use keys::largest;
+use keys::Child;
 use paper::{Job, Node, Span, Way};
 use rows::{con_len, node_at, value_at, value_count, word_from};
 
@@ -151,7 +151,8 @@ pub fn window(nodes: &[u32], keys: &[u32], id: usize, v: usize) -> Span
     let n = node_at(nodes, id);
     let l = node_at(nodes, n.left);
     let r = node_at(nodes, n.right);
-    let most = largest(keys, r, n.rmul);
+    let right = Child { node: r, mul: n.rmul };
+    let most = right.largest(keys);
     let from = first_from(keys, l, n.lmul, most, v);
     let to = first_from(keys, l, n.lmul, 0, v);
     Span { from, to }

@@ -9,6 +9,7 @@ ghost use Rattle.paper.specs.Join.{count_up, inner_plan, inner_added, inner_node
 ghost use Rattle.join_plan.specs.Ready.{RowReady};
 
 use join_plan::inner_plan;
+use keys::{Child, Children};
 use paper::{Added, Counters, Node, Pair, Refusal};
 
 fn write_count(keys: &mut [u32], at: usize, count: usize)
@@ -57,7 +58,11 @@ fn write_row(nodes: &[u32], keys: &mut [u32], n: Node)
     } else {
         let l = rows::node_at(nodes, n.left);
         let r = rows::node_at(nodes, n.right);
-        keys::write_keys(keys, l, n.lmul, r, n.rmul, first, count);
+        let children = Children {
+            left: Child { node: l, mul: n.lmul },
+            right: Child { node: r, mul: n.rmul },
+        };
+        children.write_keys(keys, first, count);
     }
 }
 

@@ -7,6 +7,7 @@ ghost use Rattle.paper.specs.Rows.{con_len, value_at};
 ghost use Rattle.paper.specs.Join.{room_for, muls_ok, fit_plan, unit_plan, general_plan, inner_plan};
 ghost use Rattle.keys.specs.Least.{Mono};
 
+use keys::{Child, Children};
 use paper::{CELL_LIMIT, Counters, DEPTH_LIMIT, KEY_LIMIT, MUL_LIMIT, Node, Pair, Refusal, Sizes};
 
 pub fn room(c: Counters, count: usize, s: Sizes) -> bool
@@ -83,19 +84,21 @@ fn general_plan(
     requires mono { (Mono (con_len l) (λ k. value_at keys.now l k)) × (Mono (con_len r) (λ k. value_at keys.now r k)) }
     ensures { result ≡ general_plan keys.now j l r c s }
 {
-    let lm = j.lmul;
-    let rm = j.rmul;
     let nl = rows::con_len(l);
     let nr = rows::con_len(r);
     if (nl == 0) & (nr == 0) {
         return Err(Refusal::NoValue);
     }
-    let most = keys::largest(keys, l, lm) + keys::largest(keys, r, rm);
+    let children = Children {
+        left: Child { node: l, mul: j.lmul },
+        right: Child { node: r, mul: j.rmul },
+    };
+    let most = children.left.largest(keys) + children.right.largest(keys);
     if KEY_LIMIT < most {
         return Err(Refusal::KeyTooLarge);
     }
     let top = CELL_LIMIT - c.cells + 1;
-    let count = keys::count_keys(keys, l, lm, r, rm, top);
+    let count = children.count_keys(keys, top);
     fit_plan(2, j, l, r, c, count, s)
 }
 

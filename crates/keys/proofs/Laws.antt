@@ -18,7 +18,7 @@ use Rattle.paper.specs.Limits.{mul_limit, key_limit}
 use Rattle.paper.specs.declared.Node.{Node}
 use Rattle.paper.specs.Keys.{node_keys, put, put_all, keys_of}
 use Rattle.facts.specs.Facts.{Under}
-use Rattle.facts.proofs.Members.{three, put_less, put_same, put_more, value_same}
+use Rattle.facts.proofs.Members.{three, put_less, put_same, put_more, value_same, node_same}
 use Rattle.keys.specs.Least.{Mono, last_of, picked_at, none, pick_of, least_all, least_sum, first_from, start_at, Cut}
 
 -- ascending, from lo up to below hi
@@ -349,3 +349,30 @@ sum_stays l nr r a i e (suc d) =
     ∙ ap (λ (b : ℕ). least_all nr (λ j. l (d + i) + r j) a (pick_of a (l (d + i)) b)) (sum_stays l nr r a i e d)
     ∙ ap (least_all nr (λ j. l (d + i) + r j) a) (pick_stays a (l (d + i)))
     ∙ all_stays nr (λ j. l (d + i) + r j) a
+
+-- ---- the loops of the code
+
+-- a turn of a loop that goes through the keys: what is asked for from past key i - 1 on is key i, and `none` at most
+pub turn_key : (keys : List ℕ) (l : Node) (lm : ℕ) (r : Node) (rm : ℕ) → ((k : ℕ) → get_or keys k 0 < 4294967296) → lm ≤ mul_limit → rm ≤ mul_limit
+    → (x a i : ℕ) → x ≡ first_from a (node_keys keys l lm r rm) → a ≡ start_at (node_keys keys l lm r rm) i
+    → (x ≡ get_or (node_keys keys l lm r rm) i none) × (x ≤ none)
+turn_key keys l lm r rm h g k x a i e s =
+    let b = node_between keys l lm r rm h g k in
+    let key : x ≡ get_or (node_keys keys l lm r rm) i none = e ∙ ap (λ (v : ℕ). first_from v (node_keys keys l lm r rm)) s ∙ first_is_key (node_keys keys l lm r rm) i b in
+    (key, omega (arith, key, key_most 0 (node_keys keys l lm r rm) i b))
+
+-- .. and where the next one starts
+pub turn_start : (s : List ℕ) (x i : ℕ) → x ≡ get_or s i none → x + 1 ≡ start_at s (i + 1)
+turn_start s x i e = ap (λ (v : ℕ). v + 1) e ∙ start_more s i
+
+-- while keys are written from `at` on, the row is as it was below `at`, and so are the children's values
+pub pasted_below : (d now : List ℕ) (at : ℕ) (s : List ℕ) (i : ℕ) → now ≡ paste d at s i → at ≤ length d → (k : ℕ) → k < at → get_or now k 0 ≡ get_or d k 0
+pasted_below d now at s i e h k l = ap (λ (row : List ℕ). get_or row k 0) e ∙ paste_below d at s i k h l
+
+-- .. so that a turn asks as if nothing had been written
+pub turn_write : (d now : List ℕ) (l : Node) (lm : ℕ) (r : Node) (rm at : ℕ) → ((k : ℕ) → get_or d k 0 < 4294967296) → lm ≤ mul_limit → rm ≤ mul_limit
+    → (x a i : ℕ) → now ≡ paste d at (node_keys d l lm r rm) i → at ≤ length d → Under l at → Under r at
+    → x ≡ first_from a (node_keys now l lm r rm) → a ≡ start_at (node_keys d l lm r rm) i
+    → (x ≡ get_or (node_keys d l lm r rm) i none) × (x ≤ none)
+turn_write d now l lm r rm at h g k x a i e t u v q s =
+    turn_key d l lm r rm h g k x a i (q ∙ ap (first_from a) (node_same now d l lm r rm at (pasted_below d now at (node_keys d l lm r rm) i e t) u v)) s

@@ -2,6 +2,7 @@ pub mod Limits
 pub mod Below
 pub mod Span
 pub mod Rows
+pub mod Kinds
 pub mod Keys
 pub mod Table
 pub mod Answers

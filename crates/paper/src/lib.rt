@@ -74,6 +74,33 @@ pub struct Node {
     pub depth: usize,
 }
 
+// What a node is, by its word `kind`. A word above 3 is no kind: the table check refuses such a node.
+#[derive(Clone, Copy, PartialEq, Eq, Debug)]
+pub enum Kind {
+    Leaf,
+    Unit,
+    General,
+    Dummy,
+    Other,
+}
+
+impl Node {
+    ghost use Rattle.paper.specs.Kinds.{Names};
+
+    #[inline]
+    pub fn kind_of(self) -> Kind
+        ensures { Names self.kind result }
+    {
+        match self.kind {
+            0 => Kind::Leaf,
+            1 => Kind::Unit,
+            2 => Kind::General,
+            3 => Kind::Dummy,
+            _ => Kind::Other,
+        }
+    }
+}
+
 // The crate's `Semantics`: what an unweighted demand asks for.
 #[derive(Clone, Copy)]
 pub enum Semantics {

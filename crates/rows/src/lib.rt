@@ -7,18 +7,18 @@ ghost use Rattle.paper.specs.Limits.{node_words};
 ghost use Rattle.paper.specs.Rows.{word_from, node_at, value_count, value_at, con_len, is_neg, lit_ok, cell_ok, inputs_ok, cells_ok, marks_low, keys_count};
 ghost use Rattle.paper.specs.Grow.{same_lit};
 
-use paper::{NODE_WORDS, Node};
+use paper::{Kind, NODE_WORDS, Node};
 
 pub fn min(a: usize, b: usize) -> usize
     ensures { result ≡ Prim.Native.Nat.min a b }
 {
-    if a <= b { a } else { b }
+    a.min(b)
 }
 
 pub fn larger(a: usize, b: usize) -> usize
     ensures { result ≡ max a b }
 {
-    if a <= b { b } else { a }
+    a.max(b)
 }
 
 pub fn wide(x: u32) -> usize
@@ -73,13 +73,10 @@ pub fn node_at(nodes: &[u32], id: usize) -> Node
 pub fn value_count(n: Node) -> usize
     ensures { result ≡ value_count n }
 {
-    let k = n.kind;
-    if k == 0 {
-        1
-    } else if k == 3 {
-        0
-    } else {
-        n.count
+    match n.kind_of() {
+        Kind::Leaf => 1,
+        Kind::Dummy => 0,
+        _ => n.count,
     }
 }
 
@@ -93,11 +90,9 @@ pub fn con_len(child: Node) -> usize
 pub fn value_at(keys: &[u32], n: Node, i: usize) -> usize
     ensures { (result ≡ value_at keys.now n i) × (result < 4294967296) }
 {
-    let k = n.kind;
-    if k == 0 {
-        1
-    } else {
-        word_from(keys, n.first, i)
+    match n.kind_of() {
+        Kind::Leaf => 1,
+        _ => word_from(keys, n.first, i),
     }
 }
 
@@ -105,17 +100,13 @@ pub fn value_at(keys: &[u32], n: Node, i: usize) -> usize
 pub fn variable(x: i32) -> u32
     ensures { result ≡ nat_abs x }
 {
-    if x < 0 {
-        (0 - (x as i64)) as u32
-    } else {
-        x as u32
-    }
+    x.unsigned_abs()
 }
 
 pub fn is_negative(x: i32) -> bool
     ensures { result ≡ is_neg x }
 {
-    x < 0
+    x.is_negative()
 }
 
 pub fn literal_ok(x: i32, f: usize) -> bool
@@ -128,7 +119,7 @@ pub fn literal_ok(x: i32, f: usize) -> bool
 pub fn same_literal(x: i32, y: i32) -> bool
     ensures { result ≡ same_lit x y }
 {
-    (variable(x) == variable(y)) & (is_negative(x) == is_negative(y))
+    x == y
 }
 
 pub fn cell_ok(lit: i32, mark: u8, f: usize, next: usize) -> bool
@@ -146,13 +137,7 @@ pub fn inputs_ok(inputs: &[i32], n: usize, f: usize) -> bool
     if inputs.len() < n {
         return false;
     }
-    let mut ok = true;
-    let mut i = 0;
-    while i < n {
-        ok = ok & literal_ok(inputs[i], f);
-        i += 1;
-    }
-    ok
+    inputs[..n].iter().all(|x| literal_ok(*x, f))
 }
 
 pub fn cells_ok(lits: &[i32], marks: &[u8], n: usize, f: usize, next: usize) -> bool
@@ -164,13 +149,10 @@ pub fn cells_ok(lits: &[i32], marks: &[u8], n: usize, f: usize, next: usize) -> 
     if marks.len() < n {
         return false;
     }
-    let mut ok = true;
-    let mut i = 0;
-    while i < n {
-        ok = ok & cell_ok(lits[i], marks[i], f, next);
-        i += 1;
-    }
-    ok
+    lits[..n]
+        .iter()
+        .zip(&marks[..n])
+        .all(|(x, m)| cell_ok(*x, *m, f, next))
 }
 
 // The marks from first on, count of them, are at most 1.
@@ -183,24 +165,12 @@ pub fn marks_low(marks: &[u8], first: usize, count: usize) -> bool
     if marks.len() - first < count {
         return false;
     }
-    let mut ok = true;
-    let mut i = 0;
-    while i < count {
-        ok = ok & (marks[first + i] <= 1);
-        i += 1;
-    }
-    ok
+    marks[first..first + count].iter().all(|m| *m <= 1)
 }
 
 // The keys from first on, count of them, are 1, 2, ..
 pub fn keys_count(keys: &[u32], first: usize, count: usize) -> bool
     ensures { result ≡ keys_count keys.now first count }
 {
-    let mut ok = true;
-    let mut i = 0;
-    while i < count {
-        ok = ok & (word_from(keys, first, i) == i + 1);
-        i += 1;
-    }
-    ok
+    (0..count).all(|i| word_from(keys, first, i) == i + 1)
 }

@@ -1,4 +1,4 @@
-use Prim.Native.Nat.{ℕ, ◌-◌, ◌≤◌}
+use Prim.Native.Nat.{ℕ}
 use mathlib.Core.Path.{◌≡◌}
 use mathlib.Core.Bool.{◌&&◌}
 use lib.ListN.{get_or}
@@ -11,7 +11,6 @@ use Rattle.keys.specs.Least.{none, start_at}
 use Rattle.keys.proofs.general_keys_ok.Given as goal
 
 abbrev pub invariant-loop-i : goal.invariant-loop-i
-invariant-loop-i l = (l.i ≤ l.count) × (l.ok ≡ all_below l.i (λ (j : ℕ). eqb (word_from l.keys l.first j) (get_or (node_keys l.keys l.l l.lm l.r l.rm) j none) && leb (word_from l.keys l.first j) key_limit)) × (l.a ≡ start_at (node_keys l.keys l.l l.lm l.r l.rm) l.i)
-
-abbrev pub decreases-loop-i : goal.decreases-loop-i
-decreases-loop-i l = l.count - l.i
+invariant-loop-i l =
+    (l.ok ≡ all_below l.i (λ (j : ℕ). eqb (word_from l.keys l.n.first j) (get_or (node_keys l.keys l.fn.l l.n.lmul l.fn.r l.n.rmul) j none) && leb (word_from l.keys l.n.first j) key_limit))
+    × (l.a ≡ start_at (node_keys l.keys l.fn.l l.n.lmul l.fn.r l.n.rmul) l.i)

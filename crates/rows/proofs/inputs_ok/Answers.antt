@@ -1,19 +1,18 @@
-use native.Mathlib.Omega.{arith}
-use mathlib.Core.Path.{sym, ap, ◌∙◌}
-use lib.ListN.{get_or}
-use lib.IntN.{ℤ, pos}
-use mir.Syntax.{w32}
-use mir.ValLaws.{to_z-of_z}
+use Rattle.std.proofs.Common.{rules, ap, ◌∙◌, length, get_or, arith, Bool, ℤ, pos, take}
+use Rattle.std.proofs.lemmas.Iterator.{YieldsList-from_slice}
+use Rattle.std.proofs.lemmas.Iterator.Search.{all_from_yields_List}
+use Rattle.std.proofs.lemmas.List.{length-take-le, get_or-take}
+use borrow.Author.Tests.{tests, le-leb}
+use Rattle.paper.specs.Below.{and_then}
 use Rattle.paper.specs.Rows.{lit_ok}
-use Rattle.paper.specs.Below.{all_none, all_step}
+use Rattle.rows.proofs.Chains.{all_is}
 use Rattle.rows.proofs.inputs_ok.Goals as goal
 
-pub loop-i-init : goal.loop-i-init
-loop-i-init c = (omega arith, sym (all_none _))
-
-pub loop-i-preserved : goal.loop-i-preserved
-loop-i-preserved c = (
-  omega arith,
-  all_step _ _ _ _ c.loop-i.invariant.1
-      (c.literal_ok-ok.ensures ∙ ap (λ (z : ℤ). lit_ok z c.args.f) (to_z-of_z w32 (get_or c.args.inputs.now c.loop-i.i (pos 0)) (record { sfits = c.literal_ok-arg-1.given }))),
-)
+pub returns : goal.returns
+returns c =
+    let a = c.args in
+    let p : ℤ → Bool = λ z. lit_ok z a.f in
+    let xs = take a.n a.inputs.now in
+    and_then _ _ _ (le-leb a.n (length a.inputs.now) (omega arith))
+    (all_from_yields_List p _ _ _ c.all.ensures.ran (YieldsList-from_slice xs c.iter.ensures.rest) (λ x b r k. search (rules, tests))
+    ∙ all_is p (pos 0) xs a.n (λ i. p (get_or a.inputs.now i (pos 0))) (length-take-le _ _ (omega arith)) (λ k l. ap p (get_or-take _ _ k _ l)))

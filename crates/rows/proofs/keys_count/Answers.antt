@@ -1,12 +1,15 @@
 use Prim.Native.Nat.{ℕ, ◌+◌}
-use native.Mathlib.Omega.{arith}
-use mathlib.Core.Path.{sym, ap}
+use Rattle.std.proofs.Common.{refl, rules, Bool, arith, ◌∙◌}
+use Rattle.std.proofs.lemmas.Iterator.{YieldsList-from_range}
+use Rattle.std.proofs.lemmas.Iterator.Search.{all_from_yields_List}
+use borrow.Author.Tests.{tests}
 use lib.Dec.{eqb}
-use Rattle.paper.specs.Below.{all_none, all_step}
+use Rattle.paper.specs.Rows.{word_from}
+use Rattle.rows.proofs.Chains.{all_range}
 use Rattle.rows.proofs.keys_count.Goals as goal
 
-pub loop-i-init : goal.loop-i-init
-loop-i-init c = (omega arith, sym (all_none _))
-
-pub loop-i-preserved : goal.loop-i-preserved
-loop-i-preserved c = (omega arith, all_step _ _ _ _ c.loop-i.invariant.1 (ap (λ (x : ℕ). eqb x (c.loop-i.i + 1)) c.word_from.ensures.0))
+pub returns : goal.returns
+returns c =
+    let q : ℕ → Bool = λ (j : ℕ). eqb (word_from c.args.keys.now c.args.first j) (j + 1) in
+    all_from_yields_List q _ _ _ c.all.ensures.ran (YieldsList-from_range 0 c.args.count c.args.count refl (omega arith)) (λ x b r k. search (rules, tests))
+    ∙ all_range c.args.count q

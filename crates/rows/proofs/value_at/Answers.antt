@@ -1,12 +1,13 @@
 use native.Mathlib.Omega.{arith}
 use borrow.Author.Tests.{eq-eqb, ne_eqb}
 use Rattle.paper.specs.Rows.{value_at}
+use Rattle.paper.specs.Kinds.{not_leaf}
 use Rattle.rows.proofs.value_at.Goals as goal
 
-pub returns-then-k-eq0 : goal.returns-then-k-eq0
+pub returns-in-Leaf : goal.returns-in-Leaf
 unfolding value_at
-returns-then-k-eq0 c = (simp (eq-eqb _ _ c.if-k-eq0.true), omega arith)
+returns-in-Leaf c = (simp (eq-eqb _ _ c.in-Leaf.ensures), omega arith)
 
-pub returns-else-k-eq0 : goal.returns-else-k-eq0
+pub returns-in_default : goal.returns-in_default
 unfolding value_at
-returns-else-k-eq0 c = (simp (ne_eqb _ _ c.if-k-eq0.false) c.word_from.ensures.0, c.word_from.ensures.1)
+returns-in_default c = (simp (ne_eqb _ _ (not_leaf _ _ c.kind_of.ensures c.in_default.not-Leaf)) c.word_from.ensures.0, c.word_from.ensures.1)

@@ -1,17 +1,20 @@
+use native.Mathlib.Omega.{arith}
 use borrow.Author.Tests.{eq-eqb, ne_eqb}
 use Rattle.paper.specs.Rows.{value_count}
+use Rattle.paper.specs.Kinds.{not_leaf, not_dummy}
 use Rattle.rows.proofs.value_count.Goals as goal
 
 -- `rows::value_count` meets its contract. Assumes nothing.
 
-pub returns-then-k-eq0 : goal.returns-then-k-eq0
+pub returns-in-Leaf : goal.returns-in-Leaf
 unfolding value_count
-returns-then-k-eq0 c = simp (eq-eqb _ _ c.if-k-eq0.true)
+returns-in-Leaf c = simp (eq-eqb _ _ c.in-Leaf.ensures)
 
-pub returns-then-k-eq3 : goal.returns-then-k-eq3
+pub returns-in-Dummy : goal.returns-in-Dummy
 unfolding value_count
-returns-then-k-eq3 c = simp (ne_eqb _ _ c.if-k-eq0.false, eq-eqb _ _ c.if-k-eq3.true)
+returns-in-Dummy c = simp (ne_eqb c.args.n.kind 0 (λ e. omega arith), eq-eqb _ _ c.in-Dummy.ensures)
 
-pub returns-else-k-eq3 : goal.returns-else-k-eq3
+pub returns-in_default : goal.returns-in_default
 unfolding value_count
-returns-else-k-eq3 c = simp (ne_eqb _ _ c.if-k-eq0.false, ne_eqb _ _ c.if-k-eq3.false)
+returns-in_default c =
+    simp (ne_eqb _ _ (not_leaf _ _ c.kind_of.ensures c.in_default.not-Leaf), ne_eqb _ _ (not_dummy _ _ c.kind_of.ensures c.in_default.not-Dummy))
