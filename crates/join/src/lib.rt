@@ -2,7 +2,7 @@
 // written.
 #![tactic(auto)]
 
-ghost use Rattle.std.specs.Prelude.{◌≡◌, ◌+◌, ◌≤◌, length, replicate, pos};
+ghost use Rattle.std.specs.Prelude.{◌≡◌, ◌+◌, ◌≤◌, length, replicate};
 ghost use Rattle.std.proofs.Math.Seq.{paste};
 ghost use Rattle.paper.specs.Limits.{cell_limit};
 ghost use Rattle.paper.specs.Join.{count_up, inner_plan, inner_added, inner_nodes, inner_keys, inner_lits, inner_marks, new_keys};
@@ -16,32 +16,18 @@ fn write_count(keys: &mut [u32], at: usize, count: usize)
     requires { (at + count ≤ length keys.old) × (count ≤ cell_limit) }
     ensures { keys.new ≡ paste keys.old at (count_up count) count }
 {
-    let mut i = 0;
-    while i < count {
+    for i in 0..count {
         keys[at + i] = (i + 1) as u32;
-        i += 1;
     }
 }
 
-fn clear_lits(lits: &mut [i32], at: usize, count: usize)
-    requires { at + count ≤ length lits.old }
-    ensures { lits.new ≡ paste lits.old at (replicate count (pos 0)) count }
+// A row with `zero` in count places from `at` on.
+fn clear<T: Copy>(row: &mut [T], at: usize, count: usize, zero: T)
+    requires { at + count ≤ length row.old }
+    ensures { row.new ≡ paste row.old at (replicate count zero) count }
 {
-    let mut i = 0;
-    while i < count {
-        lits[at + i] = 0;
-        i += 1;
-    }
-}
-
-fn clear_marks(marks: &mut [u8], at: usize, count: usize)
-    requires { at + count ≤ length marks.old }
-    ensures { marks.new ≡ paste marks.old at (replicate count 0) count }
-{
-    let mut i = 0;
-    while i < count {
-        marks[at + i] = 0;
-        i += 1;
+    for i in 0..count {
+        row[at + i] = zero;
     }
 }
 
@@ -59,8 +45,14 @@ fn write_row(nodes: &[u32], keys: &mut [u32], n: Node)
         let l = rows::node_at(nodes, n.left);
         let r = rows::node_at(nodes, n.right);
         let children = Children {
-            left: Child { node: l, mul: n.lmul },
-            right: Child { node: r, mul: n.rmul },
+            left: Child {
+                node: l,
+                mul: n.lmul,
+            },
+            right: Child {
+                node: r,
+                mul: n.rmul,
+            },
         };
         children.write_keys(keys, first, count);
     }
@@ -84,8 +76,8 @@ pub fn inner(
 {
     let n = inner_plan(nodes, inputs, keys, lits, marks, clauses, c, j)?;
     write_row(nodes, keys, n);
-    clear_lits(lits, n.first, n.count);
-    clear_marks(marks, n.first, n.count);
+    clear(lits, n.first, n.count, 0);
+    clear(marks, n.first, n.count, 0);
     grow::put_node(nodes, c.nodes, n);
     Ok(Added {
         id: c.nodes,

@@ -90,8 +90,14 @@ fn general_plan(
         return Err(Refusal::NoValue);
     }
     let children = Children {
-        left: Child { node: l, mul: j.lmul },
-        right: Child { node: r, mul: j.rmul },
+        left: Child {
+            node: l,
+            mul: j.lmul,
+        },
+        right: Child {
+            node: r,
+            mul: j.rmul,
+        },
     };
     let most = children.left.largest(keys) + children.right.largest(keys);
     if KEY_LIMIT < most {

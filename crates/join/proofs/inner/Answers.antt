@@ -5,11 +5,11 @@ use Rattle.join.proofs.inner.Goals as goal
 pub write_row-requires : goal.write_row-requires
 write_row-requires c = (make_facts _ _ _ _ _ _ _ _ _ (sym c.inner_plan.ensures ∙ c.in_ok-n.was)).ready
 
-pub clear_lits-requires : goal.clear_lits-requires
-clear_lits-requires c = (make_facts _ _ _ _ _ _ _ _ _ (sym c.inner_plan.ensures ∙ c.in_ok-n.was)).lit_row
+pub clear-requires : goal.clear-requires
+clear-requires c = (make_facts _ _ _ _ _ _ _ _ _ (sym c.inner_plan.ensures ∙ c.in_ok-n.was)).lit_row
 
-pub clear_marks-requires : goal.clear_marks-requires
-clear_marks-requires c = (make_facts _ _ _ _ _ _ _ _ _ (sym c.inner_plan.ensures ∙ c.in_ok-n.was)).mark_row
+pub clear-requires-2 : goal.clear-requires-2
+clear-requires-2 c = (make_facts _ _ _ _ _ _ _ _ _ (sym c.inner_plan.ensures ∙ c.in_ok-n.was)).mark_row
 
 pub put_node-requires : goal.put_node-requires
 put_node-requires c =
