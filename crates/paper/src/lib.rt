@@ -55,7 +55,9 @@ pub enum Kind {
 }
 
 impl Node {
+    ghost use Rattle.std.specs.Prelude.{◌≡◌};
     ghost use Rattle.paper.specs.Kinds.{Names};
+    ghost use Rattle.paper.specs.Rows.{is_leaf, is_general};
 
     #[inline]
     pub fn kind_of(self) -> Kind
@@ -68,6 +70,20 @@ impl Node {
             3 => Kind::Dummy,
             _ => Kind::Other,
         }
+    }
+
+    #[inline]
+    pub fn is_leaf(self) -> bool
+        ensures { result ≡ is_leaf self }
+    {
+        self.kind == Kind::Leaf as usize
+    }
+
+    #[inline]
+    pub fn is_general(self) -> bool
+        ensures { result ≡ is_general self }
+    {
+        self.kind == Kind::General as usize
     }
 }
 

@@ -90,9 +90,10 @@ pub fn con_len(child: Node) -> usize
 pub fn value_at(keys: &[u32], n: Node, i: usize) -> usize
     ensures { (result ≡ value_at keys.now n i) × (result < 4294967296) }
 {
-    match n.kind_of() {
-        Kind::Leaf => 1,
-        _ => word_from(keys, n.first, i),
+    if n.is_leaf() {
+        1
+    } else {
+        word_from(keys, n.first, i)
     }
 }
 
@@ -149,10 +150,11 @@ pub fn cells_ok(lits: &[i32], marks: &[u8], n: usize, f: usize, next: usize) -> 
     if marks.len() < n {
         return false;
     }
-    lits[..n]
-        .iter()
-        .zip(&marks[..n])
-        .all(|(x, m)| cell_ok(*x, *m, f, next))
+    let mut ok = true;
+    for (x, m) in lits[..n].iter().zip(&marks[..n]) {
+        ok = ok & cell_ok(*x, *m, f, next);
+    }
+    ok
 }
 
 // The marks from first on, count of them, are at most 1.
