@@ -151,7 +151,10 @@ pub fn window(nodes: &[u32], keys: &[u32], id: usize, v: usize) -> Span
     let n = node_at(nodes, id);
     let l = node_at(nodes, n.left);
     let r = node_at(nodes, n.right);
-    let right = Child { node: r, mul: n.rmul };
+    let right = Child {
+        node: r,
+        mul: n.rmul,
+    };
     let most = right.largest(keys);
     let from = first_from(keys, l, n.lmul, most, v);
     let to = first_from(keys, l, n.lmul, 0, v);

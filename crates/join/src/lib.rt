@@ -59,8 +59,14 @@ fn write_row(nodes: &[u32], keys: &mut [u32], n: Node)
         let l = rows::node_at(nodes, n.left);
         let r = rows::node_at(nodes, n.right);
         let children = Children {
-            left: Child { node: l, mul: n.lmul },
-            right: Child { node: r, mul: n.rmul },
+            left: Child {
+                node: l,
+                mul: n.lmul,
+            },
+            right: Child {
+                node: r,
+                mul: n.rmul,
+            },
         };
         children.write_keys(keys, first, count);
     }

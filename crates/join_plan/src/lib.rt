@@ -77,8 +77,14 @@ fn general_plan(keys: &[u32], j: Pair, l: Node, r: Node, c: Counters, s: Sizes) 
         return Planned::Reject(Refusal::NoValue);
     }
     let children = Children {
-        left: Child { node: l, mul: j.lmul },
-        right: Child { node: r, mul: j.rmul },
+        left: Child {
+            node: l,
+            mul: j.lmul,
+        },
+        right: Child {
+            node: r,
+            mul: j.rmul,
+        },
     };
     let most = children.left.largest(keys) + children.right.largest(keys);
     if KEY_LIMIT < most {

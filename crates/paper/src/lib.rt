@@ -57,7 +57,7 @@ pub enum Kind {
 impl Node {
     ghost use Rattle.std.specs.Prelude.{◌≡◌};
     ghost use Rattle.paper.specs.Kinds.{Names};
-    ghost use Rattle.paper.specs.Rows.{is_leaf, is_general};
+    ghost use Rattle.paper.specs.Rows.{is_leaf, is_general, is_dummy};
 
     #[inline]
     pub fn kind_of(self) -> Kind
@@ -84,6 +84,13 @@ impl Node {
         ensures { result ≡ is_general self }
     {
         self.kind == Kind::General as usize
+    }
+
+    #[inline]
+    pub fn is_dummy(self) -> bool
+        ensures { result ≡ is_dummy self }
+    {
+        self.kind == Kind::Dummy as usize
     }
 }
 

@@ -1,4 +1,4 @@
-use mathlib.Core.Path.{◌≡◌, sym, ap₂, ◌∙◌}
+use mathlib.Core.Path.{sym, ap₂, ◌∙◌}
 use mathlib.Core.Bool.{Bool, not, ◌&&◌, ◌||◌}
 use lib.Dec.{leb, eqb}
 use Rattle.paper.specs.Limits.{mul_limit}

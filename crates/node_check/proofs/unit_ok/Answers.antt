@@ -1,5 +1,5 @@
 use Prim.Native.Nat.{ℕ, ◌+◌}
-use mathlib.Core.Path.{◌≡◌, sym, ap, ap₂, ◌∙◌}
+use mathlib.Core.Path.{◌≡◌, sym, ap₂, ◌∙◌}
 use mathlib.Core.Bool.{Bool, not, ◌&&◌}
 use lib.Dec.{eqb}
 use Rattle.paper.specs.Below.{and_then, and_else}

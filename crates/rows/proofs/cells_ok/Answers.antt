@@ -1,6 +1,6 @@
 use Prim.Native.Nat.{ℕ, ◌<◌}
 use Rattle.std.proofs.Common.{sym, ap, ap₂, ◌∙◌, length, get_or, arith, ℤ, pos, take}
-use Rattle.std.proofs.lemmas.Slice.Zip.{zip_turn, zip_end}
+use Rattle.std.proofs.lemmas.Slice.Zip.{zip_turn}
 use Rattle.std.proofs.lemmas.List.{length-take-le, get_or-take, length_push}
 use mir.Syntax.{w32}
 use mir.ValLaws.{to_z-of_z}

@@ -9,7 +9,6 @@ use Rattle.paper.specs.Table.{node_ok_at, nodes_ok, leaf_step, leaves_before, ce
 use Rattle.paper.specs.Limits.{node_words}
 use Rattle.paper.specs.declared.Node.{Node}
 use Rattle.facts.proofs.Facts.{at_node, step_small}
-use native.Mathlib.Nat.{le_antisymm}
 use Rattle.table.proofs.nodes_ok.Goals as goal
 
 pub loop-i-init : goal.loop-i-init
