@@ -4,7 +4,7 @@
 ghost use Rattle.std.specs.Prelude.{◌≡◌, ◌+◌, eqb, leb};
 ghost use Rattle.paper.specs.Table.{leaf_ok, dummy_ok, depth_ok, inner_ok, unit_ok, general_ok, node_ok};
 
-use paper::{DEPTH_LIMIT, MUL_LIMIT, Node};
+use paper::{DEPTH_LIMIT, Kind, MUL_LIMIT, Node};
 
 pub fn leaf_ok(n: Node, inputs: usize) -> bool
     ensures { result ≡ leaf_ok n inputs }
@@ -18,44 +18,31 @@ pub fn leaf_ok(n: Node, inputs: usize) -> bool
         & (n.depth == 1)
 }
 
+// A dummy's words are those of a leaf whose place is 0.
 pub fn dummy_ok(n: Node) -> bool
     ensures { result ≡ dummy_ok n }
 {
-    (n.left == 0)
-        & (n.lmul == 0)
-        & (n.right == 0)
-        & (n.rmul == 0)
-        & (n.first == 0)
-        & (n.count == 0)
-        & (n.depth == 1)
+    leaf_ok(n, 0)
 }
 
 pub fn depth_ok(depth: usize, a: usize, b: usize) -> bool
     ensures { result ≡ depth_ok depth a b }
 {
-    let d = rows::larger(a, b);
-    if d < DEPTH_LIMIT {
-        depth == d + 1
-    } else {
-        false
-    }
+    let d = a.max(b);
+    d < DEPTH_LIMIT && depth == d + 1
 }
 
 // a + b = sum, and first + count <= limit, with no sum made that could wrap.
 pub fn sum_is(sum: usize, a: usize, b: usize) -> bool
     ensures { result ≡ eqb sum (a + b) }
 {
-    if a <= sum { sum - a == b } else { false }
+    a <= sum && sum - a == b
 }
 
 pub fn fits_in(first: usize, count: usize, limit: usize) -> bool
     ensures { result ≡ leb (first + count) limit }
 {
-    if first <= limit {
-        count <= limit - first
-    } else {
-        false
-    }
+    first <= limit && count <= limit - first
 }
 
 pub fn inner_ok(n: Node, l: Node, r: Node, id: usize, cells: usize, limit: usize) -> bool
@@ -70,27 +57,20 @@ pub fn unit_ok(keys: &[u32], n: Node, l: Node, r: Node) -> bool
     ensures { result ≡ unit_ok keys.now n l r }
 {
     let sum = sum_is(n.count, rows::con_len(l), rows::con_len(r));
-    if (n.lmul == 1) & (n.rmul == 1) & (l.kind != 2) & (r.kind != 2) & sum {
-        rows::keys_count(keys, n.first, n.count)
-    } else {
-        false
-    }
+    (n.lmul == 1) & (n.rmul == 1) & !l.is_general() & !r.is_general() & sum
+        && rows::keys_count(keys, n.first, n.count)
 }
 
 pub fn general_ok(keys: &[u32], marks: &[u8], n: Node, l: Node, r: Node) -> bool
     ensures { result ≡ general_ok keys.now marks.now n l r }
 {
-    if (1 <= n.lmul)
+    (1 <= n.lmul)
         & (n.lmul <= MUL_LIMIT)
         & (1 <= n.rmul)
         & (n.rmul <= MUL_LIMIT)
-        & ((l.kind == 2) | (r.kind == 2) | (n.lmul != n.rmul))
+        & (l.is_general() | r.is_general() | (n.lmul != n.rmul))
         & (1 <= n.count)
-    {
-        rows::marks_low(marks, n.first, n.count) & keys::general_keys_ok(keys, n, l, r)
-    } else {
-        false
-    }
+        && rows::marks_low(marks, n.first, n.count) & keys::general_keys_ok(keys, n, l, r)
 }
 
 // One node, with its two children's nodes and the totals of inputs and cells before it.
@@ -107,21 +87,11 @@ pub fn node_ok(
 ) -> bool
     ensures { result ≡ node_ok keys.now marks.now n l r id inputs cells limit }
 {
-    let k = n.kind;
-    if k == 0 {
-        return leaf_ok(n, inputs);
+    match n.kind_of() {
+        Kind::Leaf => leaf_ok(n, inputs),
+        Kind::Dummy => dummy_ok(n),
+        Kind::Unit => inner_ok(n, l, r, id, cells, limit) && unit_ok(keys, n, l, r),
+        Kind::General => inner_ok(n, l, r, id, cells, limit) && general_ok(keys, marks, n, l, r),
+        Kind::Other => false,
     }
-    if k == 3 {
-        return dummy_ok(n);
-    }
-    if !inner_ok(n, l, r, id, cells, limit) {
-        return false;
-    }
-    if k == 1 {
-        return unit_ok(keys, n, l, r);
-    }
-    if k == 2 {
-        return general_ok(keys, marks, n, l, r);
-    }
-    false
 }

@@ -85,7 +85,9 @@ pub enum Kind {
 }
 
 impl Node {
+    ghost use Rattle.std.specs.Prelude.{◌≡◌};
     ghost use Rattle.paper.specs.Kinds.{Names};
+    ghost use Rattle.paper.specs.Rows.{is_leaf, is_general, is_dummy};
 
     #[inline]
     pub fn kind_of(self) -> Kind
@@ -98,6 +100,27 @@ impl Node {
             3 => Kind::Dummy,
             _ => Kind::Other,
         }
+    }
+
+    #[inline]
+    pub fn is_leaf(self) -> bool
+        ensures { result ≡ is_leaf self }
+    {
+        self.kind == Kind::Leaf as usize
+    }
+
+    #[inline]
+    pub fn is_general(self) -> bool
+        ensures { result ≡ is_general self }
+    {
+        self.kind == Kind::General as usize
+    }
+
+    #[inline]
+    pub fn is_dummy(self) -> bool
+        ensures { result ≡ is_dummy self }
+    {
+        self.kind == Kind::Dummy as usize
     }
 }
 

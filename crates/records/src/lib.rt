@@ -3,7 +3,6 @@
 #![tactic(auto)]
 
 ghost use Rattle.std.specs.Prelude.{◌≡◌, ◌+◌, ◌<◌, ◌≤◌, length};
-ghost use Rattle.paper.specs.Table.{leaf_step};
 ghost use Rattle.records.specs.Table.{earlier_of, node_of, begin_of, passed_of, step_of, finish_of, records_ok};
 
 use paper::{Counters, Node};
@@ -31,18 +30,20 @@ pub struct Seen {
     pub todo: usize,
 }
 
-pub fn node_of(x: Record) -> Node
-    ensures { result ≡ node_of x }
-{
-    Node {
-        kind: rows::wide(x.kind),
-        left: rows::wide(x.left),
-        lmul: rows::wide(x.lmul),
-        right: rows::wide(x.right),
-        rmul: rows::wide(x.rmul),
-        first: rows::wide(x.first),
-        count: rows::wide(x.count),
-        depth: rows::wide(x.depth),
+impl From<Record> for Node {
+    ghost from_gives = { λ x n. n ≡ node_of x };
+
+    fn from(x: Record) -> Node {
+        Node {
+            kind: x.kind as usize,
+            left: x.left as usize,
+            lmul: x.lmul as usize,
+            right: x.right as usize,
+            rmul: x.rmul as usize,
+            first: x.first as usize,
+            count: x.count as usize,
+            depth: x.depth as usize,
+        }
     }
 }
 
@@ -51,11 +52,7 @@ pub fn node_of(x: Record) -> Node
 pub fn earlier(child: u32, id: usize) -> usize
     ensures { result ≡ earlier_of child id }
 {
-    let c = rows::wide(child);
-    if c < id {
-        return c;
-    }
-    id
+    id.min(child as usize)
 }
 
 // What needs no node.
@@ -80,13 +77,6 @@ pub fn begin(
     }
 }
 
-fn leaf_step(n: Node) -> usize
-    ensures { result ≡ leaf_step n }
-{
-    let k = n.kind;
-    if k == 0 { 1 } else { 0 }
-}
-
 // A node that passed is counted.
 fn passed(s: Seen, n: Node, nodes: usize, cells: usize) -> Seen
     requires { (s.leaves < nodes) × (s.cells + n.count ≤ cells) × (1 ≤ s.todo) }
@@ -94,7 +84,7 @@ fn passed(s: Seen, n: Node, nodes: usize, cells: usize) -> Seen
 {
     Seen {
         ok: true,
-        leaves: s.leaves + leaf_step(n),
+        leaves: s.leaves + table::leaf_step(n),
         cells: s.cells + n.count,
         todo: s.todo - 1,
     }
@@ -121,13 +111,13 @@ pub fn step(
     if s.todo == 0 {
         return s;
     }
-    let node = node_of(n);
+    let node = Node::from(n);
     let good = table::node_ok(
         keys,
         marks,
         node,
-        node_of(l),
-        node_of(r),
+        Node::from(l),
+        Node::from(r),
         id,
         s.leaves,
         s.cells,
@@ -173,13 +163,10 @@ pub fn check_records(
     ensures { result ≡ records_ok nodes.now inputs.now keys.now lits.now marks.now clauses.now c }
 {
     let mut s = begin(inputs, keys, lits, marks, clauses, c);
-    let mut i = 0;
-    while i < nodes.len() {
-        let n = nodes[i];
+    for (i, n) in nodes.iter().enumerate() {
         let l = nodes[earlier(n.left, i)];
         let r = nodes[earlier(n.right, i)];
-        s = step(n, l, r, i, s, inputs, keys, lits, marks, clauses, c);
-        i += 1;
+        s = step(*n, l, r, i, s, inputs, keys, lits, marks, clauses, c);
     }
     finish(s, inputs, keys, lits, marks, clauses, c)
 }

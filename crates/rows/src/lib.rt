@@ -7,7 +7,7 @@ ghost use Rattle.paper.specs.Limits.{node_words};
 ghost use Rattle.paper.specs.Rows.{word_from, node_at, value_count, value_at, con_len, is_neg, lit_ok, cell_ok, inputs_ok, cells_ok, marks_low, keys_count};
 ghost use Rattle.paper.specs.Grow.{same_lit};
 
-use paper::{Kind, NODE_WORDS, Node};
+use paper::{NODE_WORDS, Node};
 
 pub fn min(a: usize, b: usize) -> usize
     ensures { result ≡ Prim.Native.Nat.min a b }
@@ -73,10 +73,12 @@ pub fn node_at(nodes: &[u32], id: usize) -> Node
 pub fn value_count(n: Node) -> usize
     ensures { result ≡ value_count n }
 {
-    match n.kind_of() {
-        Kind::Leaf => 1,
-        Kind::Dummy => 0,
-        _ => n.count,
+    if n.is_leaf() {
+        1
+    } else if n.is_dummy() {
+        0
+    } else {
+        n.count
     }
 }
 
@@ -90,9 +92,10 @@ pub fn con_len(child: Node) -> usize
 pub fn value_at(keys: &[u32], n: Node, i: usize) -> usize
     ensures { (result ≡ value_at keys.now n i) × (result < 4294967296) }
 {
-    match n.kind_of() {
-        Kind::Leaf => 1,
-        _ => word_from(keys, n.first, i),
+    if n.is_leaf() {
+        1
+    } else {
+        word_from(keys, n.first, i)
     }
 }
 
@@ -149,10 +152,11 @@ pub fn cells_ok(lits: &[i32], marks: &[u8], n: usize, f: usize, next: usize) -> 
     if marks.len() < n {
         return false;
     }
-    lits[..n]
-        .iter()
-        .zip(&marks[..n])
-        .all(|(x, m)| cell_ok(*x, *m, f, next))
+    let mut ok = true;
+    for (x, m) in lits[..n].iter().zip(&marks[..n]) {
+        ok = ok & cell_ok(*x, *m, f, next);
+    }
+    ok
 }
 
 // The marks from first on, count of them, are at most 1.

@@ -1,7 +1,6 @@
-use mathlib.Core.Path.{refl}
-use Rattle.paper.specs.Table.{dummy_ok}
+use Rattle.paper.specs.Table.{leaf_ok, dummy_ok}
 use Rattle.node_check.proofs.dummy_ok.Goals as goal
 
 pub returns : goal.returns
-unfolding dummy_ok
-returns c = refl
+unfolding leaf_ok dummy_ok
+returns c = c.leaf_ok.ensures

@@ -1,37 +1,45 @@
-use mathlib.Core.Path.{refl, sym, ◌∙◌}
+use mathlib.Core.Path.{sym, ◌∙◌}
+use mathlib.Core.Bool.{and-false}
+use native.Mathlib.Omega.{arith}
 use borrow.Author.Tests.{eq-eqb, ne_eqb}
 use Rattle.paper.specs.Below.{and_then, and_else}
 use Rattle.paper.specs.Table.{node_ok}
 use Rattle.node_check.proofs.node_ok.Goals as goal
 
-pub returns-then-k-eq0 : goal.returns-then-k-eq0
+pub returns-in-Leaf : goal.returns-in-Leaf
 unfolding node_ok
-returns-then-k-eq0 c = simp (eq-eqb _ _ c.if-k-eq0.true) c.leaf_ok.ensures
+returns-in-Leaf c = simp (eq-eqb _ _ c.in-Leaf.ensures) c.leaf_ok.ensures
 
-pub returns-then-k-eq3 : goal.returns-then-k-eq3
+pub returns-in-Dummy : goal.returns-in-Dummy
 unfolding node_ok
-returns-then-k-eq3 c = simp (ne_eqb _ _ c.if-k-eq0.false, eq-eqb _ _ c.if-k-eq3.true) c.dummy_ok.ensures
+returns-in-Dummy c = simp (ne_eqb c.args.n.kind 0 (λ e. omega arith), eq-eqb _ _ c.in-Dummy.ensures) c.dummy_ok.ensures
 
-pub returns-then-not-inner_ok : goal.returns-then-not-inner_ok
+pub returns-then-inner_ok : goal.returns-then-inner_ok
 unfolding node_ok
-returns-then-not-inner_ok c =
-    simp (ne_eqb _ _ c.if-k-eq0.false, ne_eqb _ _ c.if-k-eq3.false)
-    (and_else _ _ (sym c.inner_ok.ensures ∙ c.if-not-inner_ok.true))
+returns-then-inner_ok c =
+    simp (ne_eqb c.args.n.kind 0 (λ e. omega arith), ne_eqb c.args.n.kind 3 (λ e. omega arith), eq-eqb _ _ c.in-Unit.ensures)
+    (and_then _ _ _ (sym c.inner_ok.ensures ∙ c.if-inner_ok.true) c.unit_ok.ensures)
 
-pub returns-then-k-eq1 : goal.returns-then-k-eq1
+pub returns-else-inner_ok : goal.returns-else-inner_ok
 unfolding node_ok
-returns-then-k-eq1 c =
-    simp (ne_eqb _ _ c.if-k-eq0.false, ne_eqb _ _ c.if-k-eq3.false, eq-eqb _ _ c.if-k-eq1.true)
-    (and_then _ _ _ (sym c.inner_ok.ensures ∙ c.if-not-inner_ok.false) c.unit_ok.ensures)
+returns-else-inner_ok c =
+    simp (ne_eqb c.args.n.kind 0 (λ e. omega arith), ne_eqb c.args.n.kind 3 (λ e. omega arith))
+    (c.if-inner_ok.false ∙ and_else _ _ (sym c.inner_ok.ensures ∙ c.if-inner_ok.false))
 
-pub returns-then-k-eq2 : goal.returns-then-k-eq2
+pub returns-then-inner_ok-2 : goal.returns-then-inner_ok-2
 unfolding node_ok
-returns-then-k-eq2 c =
-    simp (ne_eqb _ _ c.if-k-eq0.false, ne_eqb _ _ c.if-k-eq3.false, ne_eqb _ _ c.if-k-eq1.false, eq-eqb _ _ c.if-k-eq2.true)
-    (and_then _ _ _ (sym c.inner_ok.ensures ∙ c.if-not-inner_ok.false) c.general_ok.ensures)
+returns-then-inner_ok-2 c =
+    simp (ne_eqb c.args.n.kind 0 (λ e. omega arith), ne_eqb c.args.n.kind 3 (λ e. omega arith), ne_eqb c.args.n.kind 1 (λ e. omega arith), eq-eqb _ _ c.in-General.ensures)
+    (and_then _ _ _ (sym c.inner_ok-in-General.ensures ∙ c.if-inner_ok-2.true) c.general_ok.ensures)
 
-pub returns : goal.returns
+pub returns-else-inner_ok-2 : goal.returns-else-inner_ok-2
 unfolding node_ok
-returns c =
-    simp (ne_eqb _ _ c.if-k-eq0.false, ne_eqb _ _ c.if-k-eq3.false, ne_eqb _ _ c.if-k-eq1.false, ne_eqb _ _ c.if-k-eq2.false)
-    (and_then _ _ _ (sym c.inner_ok.ensures ∙ c.if-not-inner_ok.false) refl)
+returns-else-inner_ok-2 c =
+    simp (ne_eqb c.args.n.kind 0 (λ e. omega arith), ne_eqb c.args.n.kind 3 (λ e. omega arith))
+    (c.if-inner_ok-2.false ∙ and_else _ _ (sym c.inner_ok-in-General.ensures ∙ c.if-inner_ok-2.false))
+
+pub returns-in-Other : goal.returns-in-Other
+unfolding node_ok
+returns-in-Other c =
+    let k = c.args.n.kind in
+    simp (ne_eqb k 0 (λ e. omega arith), ne_eqb k 3 (λ e. omega arith), ne_eqb k 1 (λ e. omega arith), ne_eqb k 2 (λ e. omega arith), and-false)

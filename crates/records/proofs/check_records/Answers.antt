@@ -8,7 +8,7 @@ use Rattle.records.proofs.check_records.Goals as goal
 
 pub loop-i-init : goal.loop-i-init
 unfolding seen_at
-loop-i-init c = (omega arith, c.begin-s.ensures)
+loop-i-init c = c.begin-s.ensures
 
 -- one record more
 seen_more : (at : ℕ → Record) (inputs : List ℤ) (keys : List ℕ) (lits : List ℤ) (marks : List ℕ) (clauses : List ℤ) (c : Counters) (i left right : ℕ) (s : Seen)
@@ -18,16 +18,14 @@ unfolding seen_at
 seen_more at inputs keys lits marks clauses c i left right s e l r = rw (add-one i, e, l, r)
 
 pub loop-i-preserved : goal.loop-i-preserved
-loop-i-preserved c = (
-  omega arith,
-  c.step-s.ensures
-      ∙ seen_more (record_in c.args.nodes.now) c.args.inputs.now c.args.keys.now c.args.lits.now c.args.marks.now c.args.clauses.now c.args.c c.loop-i.i c.earlier.result
-      c.earlier-in-loop-i.result c.loop-i.s c.loop-i.invariant.1 c.earlier.ensures c.earlier-in-loop-i.ensures,
-)
+loop-i-preserved c =
+    c.step-s.ensures
+    ∙ seen_more (record_in c.args.nodes.now) c.args.inputs.now c.args.keys.now c.args.lits.now c.args.marks.now c.args.clauses.now c.args.c c.loop-i.i c.earlier.result
+    c.earlier-in-loop-i.result c.loop-i.s c.loop-i.invariant c.earlier.ensures c.earlier-in-loop-i.ensures
 
 pub returns : goal.returns
 returns c =
-    let last : c.loop-i.i ≡ length c.args.nodes.now = omega (arith, c.loop-i.invariant.0, c.loop-i-test.false) in
+    let last : c.loop-i.i ≡ length c.args.nodes.now = omega arith in
     c.finish.ensures
-    ∙ ap (λ (s : Seen). finish_of s c.args.inputs.now c.args.keys.now c.args.lits.now c.args.marks.now c.args.clauses.now c.args.c) (c.loop-i.invariant.1 ∙ ap (λ (i : ℕ). seen_at (record_in c.args.nodes.now) c.args.inputs.now c.args.keys.now c.args.lits.now c.args.marks.now c.args.clauses.now c.args.c i) last)
+    ∙ ap (λ (s : Seen). finish_of s c.args.inputs.now c.args.keys.now c.args.lits.now c.args.marks.now c.args.clauses.now c.args.c) (c.loop-i.invariant ∙ ap (λ (i : ℕ). seen_at (record_in c.args.nodes.now) c.args.inputs.now c.args.keys.now c.args.lits.now c.args.marks.now c.args.clauses.now c.args.c i) last)
     ∙ verdict (record_in c.args.nodes.now) c.args.inputs.now c.args.keys.now c.args.lits.now c.args.marks.now c.args.clauses.now c.args.c (length c.args.nodes.now)

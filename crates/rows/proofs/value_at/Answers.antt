@@ -1,13 +1,12 @@
 use native.Mathlib.Omega.{arith}
-use borrow.Author.Tests.{eq-eqb, ne_eqb}
+use mathlib.Core.Path.{sym, ◌∙◌}
 use Rattle.paper.specs.Rows.{value_at}
-use Rattle.paper.specs.Kinds.{not_leaf}
 use Rattle.rows.proofs.value_at.Goals as goal
 
-pub returns-in-Leaf : goal.returns-in-Leaf
+pub returns-then-is_leaf : goal.returns-then-is_leaf
 unfolding value_at
-returns-in-Leaf c = (simp (eq-eqb _ _ c.in-Leaf.ensures), omega arith)
+returns-then-is_leaf c = (simp (sym c.is_leaf.ensures ∙ c.if-is_leaf.true), omega arith)
 
-pub returns-in_default : goal.returns-in_default
+pub returns-else-is_leaf : goal.returns-else-is_leaf
 unfolding value_at
-returns-in_default c = (simp (ne_eqb _ _ (not_leaf _ _ c.kind_of.ensures c.in_default.not-Leaf)) c.word_from.ensures.0, c.word_from.ensures.1)
+returns-else-is_leaf c = (simp (sym c.is_leaf.ensures ∙ c.if-is_leaf.false) c.word_from.ensures.0, c.word_from.ensures.1)

@@ -1,20 +1,17 @@
-use native.Mathlib.Omega.{arith}
-use borrow.Author.Tests.{eq-eqb, ne_eqb}
+use mathlib.Core.Path.{sym, ◌∙◌}
 use Rattle.paper.specs.Rows.{value_count}
-use Rattle.paper.specs.Kinds.{not_leaf, not_dummy}
 use Rattle.rows.proofs.value_count.Goals as goal
 
 -- `rows::value_count` meets its contract. Assumes nothing.
 
-pub returns-in-Leaf : goal.returns-in-Leaf
+pub returns-then-is_leaf : goal.returns-then-is_leaf
 unfolding value_count
-returns-in-Leaf c = simp (eq-eqb _ _ c.in-Leaf.ensures)
+returns-then-is_leaf c = simp (sym c.is_leaf.ensures ∙ c.if-is_leaf.true)
 
-pub returns-in-Dummy : goal.returns-in-Dummy
+pub returns-then-is_dummy : goal.returns-then-is_dummy
 unfolding value_count
-returns-in-Dummy c = simp (ne_eqb c.args.n.kind 0 (λ e. omega arith), eq-eqb _ _ c.in-Dummy.ensures)
+returns-then-is_dummy c = simp (sym c.is_leaf.ensures ∙ c.if-is_leaf.false, sym c.is_dummy.ensures ∙ c.if-is_dummy.true)
 
-pub returns-in_default : goal.returns-in_default
+pub returns-else-is_dummy : goal.returns-else-is_dummy
 unfolding value_count
-returns-in_default c =
-    simp (ne_eqb _ _ (not_leaf _ _ c.kind_of.ensures c.in_default.not-Leaf), ne_eqb _ _ (not_dummy _ _ c.kind_of.ensures c.in_default.not-Dummy))
+returns-else-is_dummy c = simp (sym c.is_leaf.ensures ∙ c.if-is_leaf.false, sym c.is_dummy.ensures ∙ c.if-is_dummy.false)

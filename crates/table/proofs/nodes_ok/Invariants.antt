@@ -1,4 +1,4 @@
-use Prim.Native.Nat.{◌-◌, ◌*◌, ◌≤◌}
+use Prim.Native.Nat.{◌*◌, ◌≤◌}
 use mathlib.Core.Path.{◌≡◌}
 use mathlib.Core.Bool.{true}
 use Rattle.paper.specs.Below.{all_below}
@@ -7,7 +7,4 @@ use Rattle.paper.specs.Table.{node_ok_at, leaves_before, cells_before}
 use Rattle.table.proofs.nodes_ok.Given as goal
 
 abbrev pub invariant-loop-i : goal.invariant-loop-i
-invariant-loop-i l = (l.i ≤ l.count) × (all_below l.i (node_ok_at (node_at l.nodes) l.keys l.marks l.limit) ≡ true) × (l.inputs ≡ leaves_before (node_at l.nodes) l.i) × (l.cells ≡ cells_before (node_at l.nodes) l.i) × (l.inputs ≤ l.i) × (l.cells ≤ l.i * 4294967296)
-
-abbrev pub decreases-loop-i : goal.decreases-loop-i
-decreases-loop-i l = l.count - l.i
+invariant-loop-i l = (all_below l.i (node_ok_at (node_at l.nodes) l.keys l.marks l.c.cells) ≡ true) × (l.inputs ≡ leaves_before (node_at l.nodes) l.i) × (l.cells ≡ cells_before (node_at l.nodes) l.i) × (l.inputs ≤ l.i) × (l.cells ≤ l.i * 4294967296)

@@ -9,4 +9,4 @@ pub returns : goal.returns
 unfolding work_ok
 returns c =
     let a = c.args in
-    ap (λ (m : ℕ). leb m a.ints && leb m a.bytes) c.larger-need.ensures
+    ap (λ (m : ℕ). leb m a.ints && leb m a.bytes) c.max-need.ensures
