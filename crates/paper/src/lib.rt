@@ -68,6 +68,20 @@ pub struct Want {
     pub fo: bool,
 }
 
+impl Want {
+    pub const IF: Want = Want {
+        fi: true,
+        fo: false,
+    };
+
+    pub const ONLY_IF: Want = Want {
+        fi: false,
+        fo: true,
+    };
+
+    pub const BOTH: Want = Want { fi: true, fo: true };
+}
+
 // Why a call is refused. specs/Numbers.antt has document 01's number for each.
 #[derive(Clone, Copy)]
 pub enum Refusal {
@@ -220,4 +234,12 @@ pub enum Job {
     Nothing,
     Count(usize),
     Sum(usize, usize),
+}
+
+// What a demand reads of the table: the rows of nodes, input literals and keys.
+#[derive(Clone, Copy)]
+pub struct Tree<'a> {
+    pub nodes: &'a [u32],
+    pub inputs: &'a [i32],
+    pub keys: &'a [u32],
 }
