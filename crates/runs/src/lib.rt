@@ -1,4 +1,4 @@
-// What the demands share: copies of the cells for the dry run, and in proofs/ the laws of both runs.
+// What the demands share: the literal that is answered, and in proofs/ the laws of both runs.
 #![tactic(auto)]
 
 ghost use Rattle.std.specs.Prelude.{◌≡◌, length};
@@ -7,38 +7,13 @@ ghost use Rattle.paper.specs.Plain.{lit_at};
 ghost use Rattle.count.specs.Run.{Ok, Here};
 
 use count::con_lits;
-
-// The working area takes the literals and marks as they are, so that a dry run changes nothing else.
-pub fn copy_lits(src: &[i32], dst: &mut [i32])
-    requires { length dst.old ≡ length src.now }
-    ensures { dst.new ≡ src.now }
-{
-    let mut k = 0;
-    while k < src.len() {
-        let v = src[k];
-        dst[k] = v;
-        k += 1;
-    }
-}
-
-pub fn copy_marks(src: &[u8], dst: &mut [u8])
-    requires { length dst.old ≡ length src.now }
-    ensures { dst.new ≡ src.now }
-{
-    let mut k = 0;
-    while k < src.len() {
-        let v = src[k];
-        dst[k] = v;
-        k += 1;
-    }
-}
+use paper::Tree;
 
 // An output's literal, where it lies.
-pub fn literal_at<'a>(nodes: &[u32], inputs: &'a [i32], lits: &'a [i32], id: usize, i: usize) -> i32
-    requires ok { Ok nodes.now (length inputs.now) (length lits.now) }
-    requires here { Here nodes.now id i }
-    ensures { result ≡ lit_at (con_lits nodes.now inputs.now lits.now id) i }
+pub fn literal_at(tree: &Tree, lits: &[i32], id: usize, i: usize) -> i32
+    requires ok { Ok tree.now.nodes.now (length tree.now.inputs.now) (length lits.now) }
+    requires here { Here tree.now.nodes.now id i }
+    ensures { result ≡ lit_at (con_lits tree.now.nodes.now tree.now.inputs.now lits.now id) i }
 {
-    let l = con_lits(nodes, inputs, lits, id);
-    l[i]
+    con_lits(tree, lits, id)[i]
 }
