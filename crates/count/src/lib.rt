@@ -8,14 +8,13 @@ ghost use Rattle.std.proofs.Common.{SFits};
 ghost use Rattle.paper.specs.Limits.{node_words};
 ghost use Rattle.paper.specs.Rows.{con_lits};
 ghost use Rattle.paper.specs.Plain.{plan_of, taken_lits, taken_next, emit_both, finish_of, demands_of, walk_of, define};
-ghost use Rattle.clause.specs.Row.{lay, Neg};
-ghost use Rattle.clause.specs.Filling.{row_of, LaidOut, SameRow};
+ghost use Rattle.clause.specs.Row.{lay, at_row, Laid, Neg};
 ghost use Rattle.count.specs.Run.{Ok, Here, Cell, WalkOk, outs, Ends};
 ghost use Rattle.count.specs.Encoding.{state_of, SameRows, FitFor, DoneBy, RanBy};
 
 use clause::ClauseRow;
 use count_plan::{missing, precond_unit};
-use paper::{Node, Precond, Ranges, Span, Todo, Tree, Want};
+use paper::{Node, Precond, Ranges, Run, Span, Todo, Tree, Want};
 use rows::{con_len, node_at};
 
 // "A child's literals are read where they lie: a part of the input row for a leaf, of the cell row for a unit."
@@ -59,52 +58,54 @@ pub fn children_lits<'a>(tree: &Tree<'a>, lits: &'a [i32], n: Node) -> (&'a [i32
     (left, right)
 }
 
-// The own clauses of output i of the unit n, whose literal is o.
+// The own clauses of output i of the unit n, whose literal is o; how many words there are then.
 fn own_clauses(
     tree: &Tree,
     lits: &[i32],
-    clauses: &mut ClauseRow,
+    row: &mut [i32],
+    words: usize,
     n: Node,
     i: usize,
     o: i32,
     want: Want,
-)
+) -> usize
     requires ok { Ok tree.now.nodes.now (length tree.now.inputs.now) (length lits.now) }
     requires left_in_bounds { (n.left < length tree.now.nodes.now / node_words) × (n.right < length tree.now.nodes.now / node_words) }
     requires neg { Neg tree.now.inputs.now }
     requires neg_2 { Neg lits.now }
-    requires i_bound { (i < 2 ^ 63) × (clauses.old.words ≤ 2 ^ 62) × SFits w32 (neg_ℤ o) }
-    ensures laid { LaidOut
+    requires i_bound { (i < 2 ^ 63) × (words ≤ 2 ^ 62) × SFits w32 (neg_ℤ o) }
+    ensures { Laid
         (emit_both lay (con_lits tree.now.nodes.now tree.now.inputs.now lits.now n.left)
-        (con_lits tree.now.nodes.now tree.now.inputs.now lits.now n.right) i o want (row_of clauses.old))
-        clauses.new }
-    ensures same { SameRow clauses.old clauses.new }
+        (con_lits tree.now.nodes.now tree.now.inputs.now lits.now n.right) i o want (at_row row.old words))
+        row.new result }
 {
     let (left, right) = children_lits(tree, lits, n);
+    let mut clauses = ClauseRow { row, words };
     clauses.emit(left, right, i, o, want);
+    clauses.words
 }
 
-// What a demand writes: the literals and marks of the cells, the next free variable, and the clauses.
+// What a demand writes: the literals and marks of the cells, the clause row, and the two counters.
 #[derive(Drop)]
 pub struct Encoder<'a> {
     pub lits: &'a mut [i32],
     pub marks: &'a mut [u8],
-    pub next: usize,
-    pub clauses: ClauseRow<'a>,
+    pub row: &'a mut [i32],
+    pub run: Run,
 }
 
 impl<'a> Encoder<'a> {
     // "Take a literal (the next variable) if there is none"
     pub fn take_lit(&mut self, at: usize)
-        requires { (at < length self.old.lits.now) × (taken_next self.old.lits.now at self.old.next ≤ 2 ^ 31) }
-        ensures taken { (self.new.lits.now ≡ taken_lits self.old.lits.now at self.old.next) × (self.new.next ≡ taken_next self.old.lits.now at self.old.next) }
-        ensures kept { (self.new.marks.now ≡ self.old.marks.now) × (row_of self.new.clauses ≡ row_of self.old.clauses) }
+        requires { (at < length self.old.lits.now) × (taken_next self.old.lits.now at self.old.run.next ≤ 2 ^ 31) }
+        ensures taken { (self.new.lits.now ≡ taken_lits self.old.lits.now at self.old.run.next) × (self.new.run.next ≡ taken_next self.old.lits.now at self.old.run.next) }
+        ensures kept { (self.new.marks.now ≡ self.old.marks.now) × (self.new.row.now ≡ self.old.row.now) × (self.new.run.words ≡ self.old.run.words) }
         ensures same { SameRows self.old self.new }
     {
         let old = self.lits[at];
         if old == 0 {
-            self.lits[at] = self.next as i32;
-            self.next += 1;
+            self.lits[at] = self.run.next as i32;
+            self.run.next += 1;
         }
     }
 
@@ -122,7 +123,9 @@ impl<'a> Encoder<'a> {
         self.marks[at] = todo.mark;
         let o = self.lits[at];
         let lits = &mut *self.lits;
-        own_clauses(tree, lits, &mut self.clauses, n, i, o, todo.want);
+        let row = &mut *self.row;
+        let words = own_clauses(tree, lits, row, self.run.words, n, i, o, todo.want);
+        self.run.words = words;
     }
 
     // The demand of output i of node id in the directions that are wanted.
