@@ -2,6 +2,9 @@
 // written down as definitions that compute; the code that meets them is in the crates above this one.
 #![tactic(auto)]
 
+ghost use Rattle.std.specs.Prelude.{◌≡◌};
+ghost use Rattle.paper.specs.Plain.{want_of};
+
 // "Limits: 4,096 nodes; 16,384 cells; depth 64; multiplier 1 to 65,535; key at most 2,147,483,647."
 // specs/Limits.antt names the same numbers for the definitions.
 pub const NODE_LIMIT: usize = 4096;
@@ -80,6 +83,19 @@ impl Want {
     };
 
     pub const BOTH: Want = Want { fi: true, fo: true };
+}
+
+impl From<Semantics> for Want {
+    #[tactic(auto, unfolding(crate::specs::Plain::want_of))]
+    fn from(s: Semantics) -> Want
+        ensures { result ≡ want_of s }
+    {
+        match s {
+            Semantics::If => Want::IF,
+            Semantics::OnlyIf => Want::ONLY_IF,
+            Semantics::IfAndOnlyIf => Want::BOTH,
+        }
+    }
 }
 
 // Why a call is refused. specs/Numbers.antt has document 01's number for each.
