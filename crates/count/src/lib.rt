@@ -9,213 +9,175 @@ ghost use Rattle.paper.specs.Limits.{node_words};
 ghost use Rattle.paper.specs.Rows.{con_lits};
 ghost use Rattle.paper.specs.Plain.{plan_of, taken_lits, taken_next, emit_both, finish_of, demands_of, walk_of, define};
 ghost use Rattle.clause.specs.Row.{lay, at_row, Laid, Neg};
-ghost use Rattle.count.specs.Run.{Ok, Here, Cell, WalkOk, Fit, outs, state, Done, Ran, Ends};
+ghost use Rattle.count.specs.Run.{Ok, Here, Cell, WalkOk, outs, Ends};
+ghost use Rattle.count.specs.Encoding.{state_of, SameRows, FitFor, DoneBy, RanBy};
 
-use clause::emit;
+use clause::ClauseRow;
 use count_plan::{missing, precond_unit};
-use paper::{Precond, Ranges, Run, Span, Todo, Want};
+use paper::{Node, Precond, Ranges, Run, Span, Todo, Tree, Want};
 use rows::{con_len, node_at};
 
 // "A child's literals are read where they lie: a part of the input row for a leaf, of the cell row for a unit."
-pub fn con_lits<'a>(nodes: &[u32], inputs: &'a [i32], lits: &'a [i32], id: usize) -> &'a [i32]
-    requires { (id < length nodes.now / node_words) × Ok nodes.now (length inputs.now) (length lits.now) }
-    ensures { result.now ≡ con_lits nodes.now inputs.now lits.now id }
+pub fn con_lits<'a>(tree: &Tree<'a>, lits: &'a [i32], id: usize) -> &'a [i32]
+    requires { (id < length tree.now.nodes.now / node_words) × Ok tree.now.nodes.now (length tree.now.inputs.now) (length lits.now) }
+    ensures { result.now ≡ con_lits tree.now.nodes.now tree.now.inputs.now lits.now id }
 {
-    let n = node_at(nodes, id);
+    let n = node_at(tree.nodes, id);
     let p = n.first;
     if n.kind == 0 {
-        return &inputs[p..p + 1];
+        return &tree.inputs[p..p + 1];
     }
     let e = p + con_len(n);
     &lits[p..e]
 }
 
 // What is to be done at output i: return, pass the demand through, or walk the children and go on.
-pub fn precond_unweighted(nodes: &[u32], marks: &[u8], id: usize, i: usize, want: Want) -> Precond
-    requires here { Here nodes.now id i }
-    requires by_index { (ni : ℕ) × Ok nodes.now ni (length marks.now) }
-    ensures { result ≡ plan_of nodes.now marks.now id i want }
+pub fn precond_unweighted(tree: &Tree, marks: &[u8], id: usize, i: usize, want: Want) -> Precond
+    requires here { Here tree.now.nodes.now id i }
+    requires by_index { (ni : ℕ) × Ok tree.now.nodes.now ni (length marks.now) }
+    ensures { result ≡ plan_of tree.now.nodes.now marks.now id i want }
 {
-    let n = node_at(nodes, id);
+    let n = node_at(tree.nodes, id);
     if n.kind == 1 {
         let at = n.first + i;
         let todo = missing(marks[at], want);
-        return precond_unit(nodes, n, i, todo);
+        return precond_unit(tree.nodes, n, i, todo);
     }
     Precond::Return
 }
 
-// "Take a literal (the next variable) if there is none"
-pub fn take_lit(lits: &mut [i32], at: usize, next: usize) -> usize
-    requires { (at < length lits.old) × (taken_next lits.old at next ≤ 2 ^ 31) }
-    ensures { (lits.new ≡ taken_lits lits.old at next) × (result ≡ taken_next lits.old at next) }
+// The literals of the two children of n.
+pub fn children_lits<'a>(tree: &Tree<'a>, lits: &'a [i32], n: Node) -> (&'a [i32], &'a [i32])
+    requires ok { Ok tree.now.nodes.now (length tree.now.inputs.now) (length lits.now) }
+    requires below { (n.left < length tree.now.nodes.now / node_words) × (n.right < length tree.now.nodes.now / node_words) }
+    ensures left { result.0.now ≡ con_lits tree.now.nodes.now tree.now.inputs.now lits.now n.left }
+    ensures right { result.1.now ≡ con_lits tree.now.nodes.now tree.now.inputs.now lits.now n.right }
 {
-    let old = lits[at];
-    if old == 0 {
-        lits[at] = next as i32;
-        return next + 1;
-    }
-    next
+    let left = con_lits(tree, lits, n.left);
+    let right = con_lits(tree, lits, n.right);
+    (left, right)
 }
 
-// The own clauses of an output o whose children are left and right.
-fn own_clauses<'a>(
-    nodes: &[u32],
-    inputs: &'a [i32],
-    lits: &'a [i32],
+// The own clauses of output i of the unit n, whose literal is o; how many words there are then.
+fn own_clauses(
+    tree: &Tree,
+    lits: &[i32],
     row: &mut [i32],
-    left: usize,
-    right: usize,
+    words: usize,
+    n: Node,
     i: usize,
     o: i32,
     want: Want,
-    words: usize,
 ) -> usize
-    requires ok { Ok nodes.now (length inputs.now) (length lits.now) }
-    requires left_in_bounds { (left < length nodes.now / node_words) × (right < length nodes.now / node_words) }
-    requires neg { Neg inputs.now }
+    requires ok { Ok tree.now.nodes.now (length tree.now.inputs.now) (length lits.now) }
+    requires left_in_bounds { (n.left < length tree.now.nodes.now / node_words) × (n.right < length tree.now.nodes.now / node_words) }
+    requires neg { Neg tree.now.inputs.now }
     requires neg_2 { Neg lits.now }
     requires i_bound { (i < 2 ^ 63) × (words ≤ 2 ^ 62) × SFits w32 (neg_ℤ o) }
     ensures { Laid
-        (emit_both lay (con_lits nodes.now inputs.now lits.now left)
-        (con_lits nodes.now inputs.now lits.now right) i o want (at_row row.old words))
+        (emit_both lay (con_lits tree.now.nodes.now tree.now.inputs.now lits.now n.left)
+        (con_lits tree.now.nodes.now tree.now.inputs.now lits.now n.right) i o want (at_row row.old words))
         row.new result }
 {
-    let l = con_lits(nodes, inputs, lits, left);
-    let r = con_lits(nodes, inputs, lits, right);
-    emit(l, r, row, i, o, want, words)
+    let (left, right) = children_lits(tree, lits, n);
+    let mut clauses = ClauseRow { row, words };
+    clauses.emit(left, right, i, o, want);
+    clauses.words
 }
 
-// Once the children are there: a literal, the mark, the clauses.
-fn encode_unweighted(
-    nodes: &[u32],
-    inputs: &[i32],
-    lits: &mut [i32],
-    marks: &mut [u8],
-    row: &mut [i32],
-    id: usize,
-    i: usize,
-    todo: Todo,
-    run: Run,
-) -> Run
-    requires fit { Fit nodes.now inputs.now lits.old marks.old run }
-    requires cell { Cell nodes.now id i }
-    requires run_bound { (finish_of lay nodes.now inputs.now id i todo (state lits.old marks.old row.old run)).next ≤ 2 ^ 31 }
-    ensures { Done nodes.now inputs.now
-        (finish_of lay nodes.now inputs.now id i todo (state lits.old marks.old row.old run))
-        lits.new marks.new row.new result }
-{
-    let n = node_at(nodes, id);
-    let at = n.first + i;
-    let next = take_lit(lits, at, run.next);
-    marks[at] = todo.mark;
-    let o = lits[at];
-    let want = todo.want;
-    let words = own_clauses(
-        nodes, inputs, lits, row, n.left, n.right, i, o, want, run.words,
-    );
-    Run { next, words }
+// What a demand writes: the literals and marks of the cells, the clause row, and the two counters.
+#[derive(Drop)]
+pub struct Encoder<'a> {
+    pub lits: &'a mut [i32],
+    pub marks: &'a mut [u8],
+    pub row: &'a mut [i32],
+    pub run: Run,
 }
 
-// The demand of output i of node id in the directions that are wanted.
-#[cycle(define_unweighted_rec_recurse_span_recurse_unweighted)]
-pub fn define_unweighted_rec(
-    nodes: &[u32],
-    inputs: &[i32],
-    lits: &mut [i32],
-    marks: &mut [u8],
-    row: &mut [i32],
-    id: usize,
-    i: usize,
-    want: Want,
-    run: Run,
-) -> Run
-    requires fit { Fit nodes.now inputs.now lits.old marks.old run }
-    requires here { Here nodes.now id i }
-    requires ends { Ends (id + 1) (λ f. define lay f nodes.now inputs.now id i want (state lits.old marks.old row.old run)) }
-    ensures { Ran nodes.now inputs.now (id + 1)
-        (λ f. define lay f nodes.now inputs.now id i want (state lits.old marks.old row.old run))
-        lits.new marks.new row.new result }
-{
-    let p = precond_unweighted(nodes, marks, id, i, want);
-    match p {
-        Precond::Return => run,
-        Precond::Pass(child, todo) => {
-            let w = todo.want;
-            let passed = define_unweighted_rec(nodes, inputs, lits, marks, row, child, i, w, run);
-            encode_unweighted(nodes, inputs, lits, marks, row, id, i, todo, passed)
-        }
-        Precond::Continue(rs, todo) => {
-            let walked = recurse_unweighted(nodes, inputs, lits, marks, row, id, rs, run);
-            encode_unweighted(nodes, inputs, lits, marks, row, id, i, todo, walked)
+impl<'a> Encoder<'a> {
+    // "Take a literal (the next variable) if there is none"
+    pub fn take_lit(&mut self, at: usize)
+        requires { (at < length self.old.lits.now) × (taken_next self.old.lits.now at self.old.run.next ≤ 2 ^ 31) }
+        ensures taken { (self.new.lits.now ≡ taken_lits self.old.lits.now at self.old.run.next) × (self.new.run.next ≡ taken_next self.old.lits.now at self.old.run.next) }
+        ensures kept { (self.new.marks.now ≡ self.old.marks.now) × (self.new.row.now ≡ self.old.row.now) × (self.new.run.words ≡ self.old.run.words) }
+        ensures same { SameRows self.old self.new }
+    {
+        let old = self.lits[at];
+        if old == 0 {
+            self.lits[at] = self.run.next as i32;
+            self.run.next += 1;
         }
     }
-}
 
-// "Demand If of the left .., then of the right ..; then .. OnlyIf of the left .., then of the right". A range is empty where
-// its direction is not missing.
-#[cycle(define_unweighted_rec_recurse_span_recurse_unweighted)]
-fn recurse_unweighted(
-    nodes: &[u32],
-    inputs: &[i32],
-    lits: &mut [i32],
-    marks: &mut [u8],
-    row: &mut [i32],
-    id: usize,
-    rs: Ranges,
-    run: Run,
-) -> Run
-    requires fit { Fit nodes.now inputs.now lits.old marks.old run }
-    requires walk_ok { WalkOk nodes.now id rs }
-    requires ends { Ends id (λ f. walk_of lay (define lay f nodes.now inputs.now) rs (state lits.old marks.old row.old run)) }
-    ensures { Ran nodes.now inputs.now id
-        (λ f. walk_of lay (define lay f nodes.now inputs.now) rs (state lits.old marks.old row.old run))
-        lits.new marks.new row.new result }
-{
-    let fi = Want {
-        fi: true,
-        fo: false,
-    };
-    let fo = Want {
-        fi: false,
-        fo: true,
-    };
-    let a = rs.left_if;
-    let b = rs.right_if;
-    let c = rs.left_only;
-    let d = rs.right_only;
-    let r1 = recurse_span(nodes, inputs, lits, marks, row, rs.left, a, fi, run);
-    let r2 = recurse_span(nodes, inputs, lits, marks, row, rs.right, b, fi, r1);
-    let r3 = recurse_span(nodes, inputs, lits, marks, row, rs.left, c, fo, r2);
-    recurse_span(nodes, inputs, lits, marks, row, rs.right, d, fo, r3)
-}
-
-// The demands of a child's outputs, ascending.
-#[cycle(define_unweighted_rec_recurse_span_recurse_unweighted)]
-fn recurse_span(
-    nodes: &[u32],
-    inputs: &[i32],
-    lits: &mut [i32],
-    marks: &mut [u8],
-    row: &mut [i32],
-    child: usize,
-    span: Span,
-    want: Want,
-    run: Run,
-) -> Run
-    requires fit { Fit nodes.now inputs.now lits.old marks.old run }
-    requires child_in_bounds { (child < length nodes.now / node_words) × (span.to ≤ outs nodes.now child) }
-    requires ends { Ends (child + 1) (λ f. demands_of lay (define lay f nodes.now inputs.now) child span want (state lits.old marks.old row.old run)) }
-    ensures { Ran nodes.now inputs.now (child + 1)
-        (λ f. demands_of lay (define lay f nodes.now inputs.now) child span want (state lits.old marks.old row.old run))
-        lits.new marks.new row.new result }
-{
-    let mut k = span.from;
-    let end = span.to;
-    let mut r = run;
-    while k < end {
-        r = define_unweighted_rec(nodes, inputs, lits, marks, row, child, k, want, r);
-        k += 1;
+    // Once the children are there: a literal, the mark, the clauses.
+    fn encode_unweighted(&mut self, tree: &Tree, id: usize, i: usize, todo: Todo)
+        requires fit { FitFor tree.now self.old }
+        requires cell { Cell tree.now.nodes.now id i }
+        requires run_bound { (finish_of lay tree.now.nodes.now tree.now.inputs.now id i todo (state_of self.old)).next ≤ 2 ^ 31 }
+        ensures done { DoneBy tree.now (finish_of lay tree.now.nodes.now tree.now.inputs.now id i todo (state_of self.old)) self.new }
+        ensures same { SameRows self.old self.new }
+    {
+        let n = node_at(tree.nodes, id);
+        let at = n.first + i;
+        self.take_lit(at);
+        self.marks[at] = todo.mark;
+        let o = self.lits[at];
+        let lits = &mut *self.lits;
+        let row = &mut *self.row;
+        let words = own_clauses(tree, lits, row, self.run.words, n, i, o, todo.want);
+        self.run.words = words;
     }
-    r
+
+    // The demand of output i of node id in the directions that are wanted.
+    #[cycle(unweighted)]
+    pub fn define_unweighted_rec(&mut self, tree: &Tree, id: usize, i: usize, want: Want)
+        requires fit { FitFor tree.now self.old }
+        requires here { Here tree.now.nodes.now id i }
+        requires ends { Ends (id + 1) (λ f. define lay f tree.now.nodes.now tree.now.inputs.now id i want (state_of self.old)) }
+        ensures ran { RanBy tree.now (id + 1) (λ f. define lay f tree.now.nodes.now tree.now.inputs.now id i want (state_of self.old)) self.new }
+        ensures same { SameRows self.old self.new }
+    {
+        let marks = &mut *self.marks;
+        match precond_unweighted(tree, marks, id, i, want) {
+            Precond::Return => {}
+            Precond::Pass(child, todo) => {
+                self.define_unweighted_rec(tree, child, i, todo.want);
+                self.encode_unweighted(tree, id, i, todo);
+            }
+            Precond::Continue(ranges, todo) => {
+                self.recurse_unweighted(tree, id, ranges);
+                self.encode_unweighted(tree, id, i, todo);
+            }
+        }
+    }
+
+    // "Demand If of the left .., then of the right ..; then .. OnlyIf of the left .., then of the right". A range is empty where
+    // its direction is not missing.
+    #[cycle(unweighted)]
+    fn recurse_unweighted(&mut self, tree: &Tree, id: usize, rs: Ranges)
+        requires fit { FitFor tree.now self.old }
+        requires walk_ok { WalkOk tree.now.nodes.now id rs }
+        requires ends { Ends id (λ f. walk_of lay (define lay f tree.now.nodes.now tree.now.inputs.now) rs (state_of self.old)) }
+        ensures ran { RanBy tree.now id (λ f. walk_of lay (define lay f tree.now.nodes.now tree.now.inputs.now) rs (state_of self.old)) self.new }
+        ensures same { SameRows self.old self.new }
+    {
+        self.recurse_span(tree, rs.left, rs.left_if, Want::IF);
+        self.recurse_span(tree, rs.right, rs.right_if, Want::IF);
+        self.recurse_span(tree, rs.left, rs.left_only, Want::ONLY_IF);
+        self.recurse_span(tree, rs.right, rs.right_only, Want::ONLY_IF);
+    }
+
+    // The demands of a child's outputs, ascending.
+    #[cycle(unweighted)]
+    fn recurse_span(&mut self, tree: &Tree, child: usize, span: Span, want: Want)
+        requires fit { FitFor tree.now self.old }
+        requires child_in_bounds { (child < length tree.now.nodes.now / node_words) × (span.to ≤ outs tree.now.nodes.now child) }
+        requires ends { Ends (child + 1) (λ f. demands_of lay (define lay f tree.now.nodes.now tree.now.inputs.now) child span want (state_of self.old)) }
+        ensures ran { RanBy tree.now (child + 1) (λ f. demands_of lay (define lay f tree.now.nodes.now tree.now.inputs.now) child span want (state_of self.old)) self.new }
+        ensures same { SameRows self.old self.new }
+    {
+        for k in span.from..span.to {
+            self.define_unweighted_rec(tree, child, k, want);
+        }
+    }
 }

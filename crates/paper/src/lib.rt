@@ -162,21 +162,29 @@ pub struct Want {
     pub fo: bool,
 }
 
-impl From<Semantics> for Want {
-    ghost from_gives = { λ s w. w ≡ want_of s };
+impl Want {
+    pub const IF: Want = Want {
+        fi: true,
+        fo: false,
+    };
 
+    pub const ONLY_IF: Want = Want {
+        fi: false,
+        fo: true,
+    };
+
+    pub const BOTH: Want = Want { fi: true, fo: true };
+}
+
+impl From<Semantics> for Want {
     #[tactic(auto, unfolding(crate::specs::Plain::want_of))]
-    fn from(s: Semantics) -> Want {
+    fn from(s: Semantics) -> Want
+        ensures { result ≡ want_of s }
+    {
         match s {
-            Semantics::If => Want {
-                fi: true,
-                fo: false,
-            },
-            Semantics::OnlyIf => Want {
-                fi: false,
-                fo: true,
-            },
-            Semantics::IfAndOnlyIf => Want { fi: true, fo: true },
+            Semantics::If => Want::IF,
+            Semantics::OnlyIf => Want::ONLY_IF,
+            Semantics::IfAndOnlyIf => Want::BOTH,
         }
     }
 }
@@ -319,4 +327,12 @@ pub enum Job {
     Nothing,
     Count(usize),
     Sum(usize, usize),
+}
+
+// What a demand reads of the table: the rows of nodes, input literals and keys.
+#[derive(Clone, Copy)]
+pub struct Tree<'a> {
+    pub nodes: &'a [u32],
+    pub inputs: &'a [i32],
+    pub keys: &'a [u32],
 }

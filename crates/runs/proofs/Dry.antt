@@ -1,14 +1,14 @@
 -- What a dry run and a run in earnest tell, by the plain run: of any run that has the laws of `Runs`.
 use Rattle.std.specs.Prelude.{◌≡◌, refl, List, ℕ, ◌+◌, ◌≤◌, ◌<◌, ◌^◌, min, ℤ, length}
-use Rattle.std.proofs.Common.{sym, ap, ◌∙◌, le_refl, arith, length-append}
+use Rattle.std.proofs.Common.{sym, ap, ap₂, ◌∙◌, le_refl, arith, length-append}
 use Rattle.paper.specs.Plain.{St, grow, start, words_of}
 use Rattle.paper.specs.declared.Run.{Run}
 use Rattle.clause.specs.Row.{Row, lay, at_row}
-use Rattle.count.specs.Run.{Fit, state, Ends}
+use Rattle.count.specs.Run.{Fit, state, Ran, Ends}
 use Rattle.facts.specs.Sinks.{through}
 use Rattle.runs.specs.Counts.{laid, tally, Like, zeros, AnyRun, Runs}
 use Rattle.runs.proofs.Counts.{laid_hom, sets_out, zeros_length}
-use Rattle.runs.specs.Dry.{Known, Real, dry_run, plain_of}
+use Rattle.runs.specs.Dry.{Known, Real, dry_run, plain_of, Twice}
 
 module _ (run : AnyRun) (laws : Runs run) (k : ℕ) (lits : List ℤ) (marks : List ℕ) where
   abbrev plain : ℕ → St (List ℤ)
@@ -84,3 +84,34 @@ pub fit_dry : (ns : List ℕ) (ins lits wl : List ℤ) (marks wm : List ℕ) (u 
 fit_dry ns ins lits wl marks wm u len a b h f =
     rw (a, b)
     (record { ok = f.ok; same = f.same; neg_ins = f.neg_ins; neg_lits = f.neg_lits; some = omega arith; counted = h })
+
+-- any run that has the laws of `Runs` can be run twice
+pub twice : (run : AnyRun) (laws : Runs run) (k : ℕ) → Twice (run Row lay) (plain_of run k) k
+twice run laws k =
+    record {
+      dry_ends = λ lits marks row small few. dry_ends run laws k lits marks row small few;
+      real_ends = λ lits marks row small u h b. real_ends run laws k lits marks row small u h b;
+      known = λ lits marks row small few ls ms r d is n h. known run laws k lits marks row small few ls ms r d is n h;
+      real = λ lits marks row small u h ls ms r d is. real run laws k lits marks row small u ls ms r d h is;
+    }
+
+-- rows that came back as those of a run
+pub ran_back : {ns : List ℕ} {ins : List ℤ} {k : ℕ} {s : ℕ → St Row} {l l' : List ℤ} {m m' : List ℕ} {r r' : List ℤ} {u : Run}
+    → l' ≡ l → m' ≡ m → r' ≡ r → Ran ns ins k s l m r u → Ran ns ins k s l' m' r' u
+ran_back p q e h = rw (p, q, e) h
+
+-- what the dry run on copies tells
+pub dry_known : {at : ℕ → St Row → St Row} {plain : List ℤ → List ℕ → ℕ → St (List ℤ)} {k : ℕ} → Twice at plain k
+    → {lits wl : List ℤ} {marks wm : List ℕ} {row : List ℤ} → wl ≡ lits → wm ≡ marks → length row ≤ 2 ^ 62 → length lits < 2 ^ 31
+    → {ls : List ℤ} {ms : List ℕ} {r : List ℤ} {d : Run} → ((f : ℕ) → k ≤ f → state ls ms r d ≡ at f (state wl wm row (dry_run row)))
+    → (n : ℕ) → 1 ≤ n → Known (plain lits marks n) n row r d
+dry_known {at} t {row = row} a b small few is n h =
+    t.known _ _ row small few _ _ _ _ (λ f l. is f l ∙ ap₂ (λ (x : List ℤ) (z : List ℕ). at f (state x z row (dry_run row))) a b) n h
+
+-- what the run in earnest leaves, over the row as the dry run left it
+pub earnest : {at : ℕ → St Row → St Row} {plain : List ℤ → List ℕ → ℕ → St (List ℤ)} {k : ℕ} → Twice at plain k
+    → {lits : List ℤ} {marks : List ℕ} {row old : List ℤ} → row ≡ old → length old ≤ 2 ^ 62 → (u : Run) → u.words + length (plain lits marks u.next).out ≤ 2 ^ 62
+    → {ls : List ℤ} {ms : List ℕ} {r : List ℤ} {d : Run} → ((f : ℕ) → k ≤ f → state ls ms r d ≡ at f (state lits marks row u))
+    → Real (plain lits marks u.next) u old ls ms r d
+earnest {at} t {lits} {marks} {old = old} e small u h is =
+    t.real _ _ old small u h _ _ _ _ (λ f l. is f l ∙ ap (λ (x : List ℤ). at f (state lits marks x u)) e)

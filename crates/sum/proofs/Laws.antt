@@ -1,5 +1,5 @@
 -- Laws of the steps of a weighted run.
-use mathlib.Core.Path.{◌≡◌, refl, sym, ap, ◌∙◌}
+use mathlib.Core.Path.{◌≡◌, refl, sym, ap, ◌∙◌, subst}
 use mathlib.Core.Bool.{Bool, true, false, cond}
 use mathlib.Core.List.{List}
 use Prim.Native.Nat.{ℕ, zero, suc, ◌+◌, ◌-◌, ◌/◌, ◌≤◌, ◌<◌, ◌^◌, min}
@@ -21,7 +21,9 @@ use Rattle.paper.specs.declared.Span.{Span}
 use Rattle.paper.specs.declared.Way.{Way}
 use Rattle.paper.specs.declared.Job.{Job}
 use Rattle.paper.specs.declared.Job.TheVariants.{Nothing, Count, Sum}
-use Rattle.clause.specs.Row.{Row, at_row, lay}
+use Rattle.clause.specs.Row.{Row, at_row, lay, Laid}
+use Rattle.count.specs.declared.Encoder.{Encoder}
+use Rattle.count.specs.Encoding.{state_of}
 use Rattle.count.specs.Run.{outs, Ok, Fit, state, Ends}
 use Rattle.count.proofs.Laws.{fit_after, mono_define, next_by}
 use Rattle.find.specs.Ways.{Sorted, Place, Pairing}
@@ -80,6 +82,20 @@ module _ (ns : List ℕ) (ins lits : List ℤ) (marks : List ℕ) (u : Run) (f :
   pub fit_cell : (at : ℕ) → at < length lits → taken_next lits at u.next ≤ 2 ^ 31 → (l : List ℤ) (n : ℕ) → l ≡ taken_lits lits at u.next → n ≡ taken_next lits at u.next
       → Fit ns ins l marks (record { next = n; words = u.words })
   fit_cell at h b l n p q = fit_after ns ins lits marks marks u at u.words f h refl f.counted b l n p q
+
+-- the same, and that a run ends, where only literals and the next variable are other
+module _ (d : Encoder) {m : List ℕ} {r : List ℤ} {w : ℕ} (a : d.marks.now ≡ m) (b : d.row.now ≡ r) (e : d.run.words ≡ w) where
+  pub state_as : state_of d ≡ state d.lits.now m r (record { next = d.run.next; words = w })
+  state_as = λ j. record { lits = d.lits.now; marks = a j; next = d.run.next; out = record { row = b j; words = e j } }
+
+  pub fit_as : {ns : List ℕ} {ins : List ℤ} → Fit ns ins d.lits.now m (record { next = d.run.next; words = w }) → Fit ns ins d.lits.now d.marks.now d.run
+  fit_as f = record { ok = f.ok; same = ap length a ∙ f.same; neg_ins = f.neg_ins; neg_lits = f.neg_lits; some = f.some; counted = rw e f.counted }
+
+  pub ends_as : (run : ℕ → St Row → St Row) {k : ℕ} → Ends k (λ f. run f (state d.lits.now m r (record { next = d.run.next; words = w }))) → Ends k (λ f. run f (state_of d))
+  ends_as run {k} h = subst (λ (s : St Row). Ends k (λ f. run f s)) (sym state_as) h
+
+pub laid_back : {s : Row} {r r' : List ℤ} {w : ℕ} → r' ≡ r → Laid s r w → Laid s r' w
+laid_back e h = rw e h
 
 -- ---- variables are only taken
 

@@ -8,10 +8,11 @@ use Rattle.count.proofs.own_clauses.Goals as goal
 pub emit-requires-clause-neg : goal.emit-requires-clause-neg
 emit-requires-clause-neg c =
     let n : List ℤ → Type 0 = Neg in
-    let l = neg_lits_of c.args.nodes.now c.args.inputs.now c.args.lits.now c.args.left c.requires.neg c.requires.neg_2 in
-    subst n (sym c.con_lits-l.ensures) l
+    let l = neg_lits_of c.args.tree.now.nodes.now c.args.tree.now.inputs.now c.args.lits.now c.args.n.left c.requires.neg c.requires.neg_2 in
+    subst n (sym c.children_lits.ensures.left) l
 
 pub emit-requires-clause-neg_2 : goal.emit-requires-clause-neg_2
 emit-requires-clause-neg_2 c =
     let n : List ℤ → Type 0 = Neg in
-    let r = neg_lits_of c.args.nodes.now c.args.inputs.now c.args.lits.now c.args.right c.requires.neg c.requires.neg_2 in subst n (sym c.con_lits-r.ensures) r
+    let r = neg_lits_of c.args.tree.now.nodes.now c.args.tree.now.inputs.now c.args.lits.now c.args.n.right c.requires.neg c.requires.neg_2 in
+    subst n (sym c.children_lits.ensures.right) r

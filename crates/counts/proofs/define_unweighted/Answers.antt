@@ -27,38 +27,42 @@ returns-then-value_count-i-clause-value c = let o : value_count (node_at c.args.
 pub overflow_mul-words : goal.overflow_mul-words
 overflow_mul-words c = omega (arith, nodes_lent c.args.nodes.now c.args.inputs.now c.args.keys.now c.args.lits.now c.args.marks.now c.args.clauses.now (length c.args.ints.now) (length c.args.bytes.now) c.args.c c.args.id c.args.i (sym c.table_ok.ensures ∙ c.if-not-table_ok.false), c.well_formed)
 
-pub slice_bounds-run_unweighted-end : goal.slice_bounds-run_unweighted-end
-slice_bounds-run_unweighted-end c = sym (length-take-le _ c.args.nodes.now (nodes_lent c.args.nodes.now c.args.inputs.now c.args.keys.now c.args.lits.now c.args.marks.now c.args.clauses.now (length c.args.ints.now) (length c.args.bytes.now) c.args.c c.args.id c.args.i (sym c.table_ok.ensures ∙ c.if-not-table_ok.false)))
+pub slice_bounds-tree-end : goal.slice_bounds-tree-end
+slice_bounds-tree-end c = sym (length-take-le _ c.args.nodes.now (nodes_lent c.args.nodes.now c.args.inputs.now c.args.keys.now c.args.lits.now c.args.marks.now c.args.clauses.now (length c.args.ints.now) (length c.args.bytes.now) c.args.c c.args.id c.args.i (sym c.table_ok.ensures ∙ c.if-not-table_ok.false)))
 
-pub slice_bounds-run_unweighted-end-2 : goal.slice_bounds-run_unweighted-end-2
-slice_bounds-run_unweighted-end-2 c = sym (length-take-le _ c.args.inputs.now (inputs_lent c.args.nodes.now c.args.inputs.now c.args.keys.now c.args.lits.now c.args.marks.now c.args.clauses.now (length c.args.ints.now) (length c.args.bytes.now) c.args.c c.args.id c.args.i (sym c.table_ok.ensures ∙ c.if-not-table_ok.false)))
+pub slice_bounds-tree-end-2 : goal.slice_bounds-tree-end-2
+slice_bounds-tree-end-2 c = sym (length-take-le _ c.args.inputs.now (inputs_lent c.args.nodes.now c.args.inputs.now c.args.keys.now c.args.lits.now c.args.marks.now c.args.clauses.now (length c.args.ints.now) (length c.args.bytes.now) c.args.c c.args.id c.args.i (sym c.table_ok.ensures ∙ c.if-not-table_ok.false)))
 
-pub slice_bounds-run_unweighted-end-3 : goal.slice_bounds-run_unweighted-end-3
-slice_bounds-run_unweighted-end-3 c = lits_lent c.args.nodes.now c.args.inputs.now c.args.keys.now c.args.lits.now c.args.marks.now c.args.clauses.now (length c.args.ints.now) (length c.args.bytes.now) c.args.c c.args.id c.args.i (sym c.table_ok.ensures ∙ c.if-not-table_ok.false)
+pub slice_bounds-meet-end : goal.slice_bounds-meet-end
+slice_bounds-meet-end c = lits_lent c.args.nodes.now c.args.inputs.now c.args.keys.now c.args.lits.now c.args.marks.now c.args.clauses.now (length c.args.ints.now) (length c.args.bytes.now) c.args.c c.args.id c.args.i (sym c.table_ok.ensures ∙ c.if-not-table_ok.false)
 
-pub slice_bounds-run_unweighted-end-4 : goal.slice_bounds-run_unweighted-end-4
-slice_bounds-run_unweighted-end-4 c = sym (length-take-le _ c.args.lits.now (lits_lent c.args.nodes.now c.args.inputs.now c.args.keys.now c.args.lits.now c.args.marks.now c.args.clauses.now (length c.args.ints.now) (length c.args.bytes.now) c.args.c c.args.id c.args.i (sym c.table_ok.ensures ∙ c.if-not-table_ok.false)))
+pub slice_bounds-meet-end-2 : goal.slice_bounds-meet-end-2
+slice_bounds-meet-end-2 c = sym (length-take-le _ c.args.lits.now (lits_lent c.args.nodes.now c.args.inputs.now c.args.keys.now c.args.lits.now c.args.marks.now c.args.clauses.now (length c.args.ints.now) (length c.args.bytes.now) c.args.c c.args.id c.args.i (sym c.table_ok.ensures ∙ c.if-not-table_ok.false)))
 
-pub slice_bounds-run_unweighted-end-5 : goal.slice_bounds-run_unweighted-end-5
-slice_bounds-run_unweighted-end-5 c = marks_lent c.args.nodes.now c.args.inputs.now c.args.keys.now c.args.lits.now c.args.marks.now c.args.clauses.now (length c.args.ints.now) (length c.args.bytes.now) c.args.c c.args.id c.args.i (sym c.table_ok.ensures ∙ c.if-not-table_ok.false)
+pub slice_bounds-meet-end-3 : goal.slice_bounds-meet-end-3
+slice_bounds-meet-end-3 c = marks_lent c.args.nodes.now c.args.inputs.now c.args.keys.now c.args.lits.now c.args.marks.now c.args.clauses.now (length c.args.ints.now) (length c.args.bytes.now) c.args.c c.args.id c.args.i (sym c.table_ok.ensures ∙ c.if-not-table_ok.false)
 
-pub slice_bounds-run_unweighted-end-6 : goal.slice_bounds-run_unweighted-end-6
-slice_bounds-run_unweighted-end-6 c = sym (length-take-le _ c.args.marks.now (marks_lent c.args.nodes.now c.args.inputs.now c.args.keys.now c.args.lits.now c.args.marks.now c.args.clauses.now (length c.args.ints.now) (length c.args.bytes.now) c.args.c c.args.id c.args.i (sym c.table_ok.ensures ∙ c.if-not-table_ok.false)))
+pub slice_bounds-meet-end-4 : goal.slice_bounds-meet-end-4
+slice_bounds-meet-end-4 c = sym (length-take-le _ c.args.marks.now (marks_lent c.args.nodes.now c.args.inputs.now c.args.keys.now c.args.lits.now c.args.marks.now c.args.clauses.now (length c.args.ints.now) (length c.args.bytes.now) c.args.c c.args.id c.args.i (sym c.table_ok.ensures ∙ c.if-not-table_ok.false)))
 
-pub run_unweighted-requires-clause-fit : goal.run_unweighted-requires-clause-fit
-run_unweighted-requires-clause-fit c = let o : c.args.i < value_count (node_at c.args.nodes.now c.args.id) = omega (arith, c.if-value_count-i.false, c.value_count.ensures, ap value_count c.node_at-n.ensures) in
+pub meet-requires-clause-fit : goal.meet-requires-clause-fit
+meet-requires-clause-fit c = let o : c.args.i < value_count (node_at c.args.nodes.now c.args.id) = omega (arith, c.if-value_count-i.false, c.value_count.ensures, ap value_count c.node_at-n.ensures) in
     let small : length c.args.clauses.now ≤ 2 ^ 62 = omega (arith, c.well_formed.1.1.1.1.1.0) in fits c.args.nodes.now c.args.inputs.now c.args.keys.now c.args.lits.now c.args.marks.now c.args.clauses.now (length c.args.ints.now) (length c.args.bytes.now) c.args.c c.args.id c.args.i (sym c.table_ok.ensures ∙ c.if-not-table_ok.false) small
 
-pub run_unweighted-requires-clause-here : goal.run_unweighted-requires-clause-here
-run_unweighted-requires-clause-here c = let o : c.args.i < value_count (node_at c.args.nodes.now c.args.id) = omega (arith, c.if-value_count-i.false, c.value_count.ensures, ap value_count c.node_at-n.ensures) in
+pub meet-requires-clause-here : goal.meet-requires-clause-here
+meet-requires-clause-here c = let o : c.args.i < value_count (node_at c.args.nodes.now c.args.id) = omega (arith, c.if-value_count-i.false, c.value_count.ensures, ap value_count c.node_at-n.ensures) in
     here c.args.nodes.now c.args.inputs.now c.args.keys.now c.args.lits.now c.args.marks.now c.args.clauses.now (length c.args.ints.now) (length c.args.bytes.now) c.args.c c.args.id c.args.i (sym c.table_ok.ensures ∙ c.if-not-table_ok.false) c.if-c-id.false o
 
-pub run_unweighted-requires-clause-lits_in_bounds : goal.run_unweighted-requires-clause-lits_in_bounds
-run_unweighted-requires-clause-lits_in_bounds c = room c.args.nodes.now c.args.inputs.now c.args.keys.now c.args.lits.now c.args.marks.now c.args.clauses.now (length c.args.ints.now) (length c.args.bytes.now) c.args.c c.args.id c.args.i (sym c.table_ok.ensures ∙ c.if-not-table_ok.false) (sym c.work_ok.ensures ∙ c.if-not-work_ok.false)
+pub meet-requires-clause-asked : goal.meet-requires-clause-asked
+meet-requires-clause-asked c = let o : c.args.i < value_count (node_at c.args.nodes.now c.args.id) = omega (arith, c.if-value_count-i.false, c.value_count.ensures, ap value_count c.node_at-n.ensures) in
+    here c.args.nodes.now c.args.inputs.now c.args.keys.now c.args.lits.now c.args.marks.now c.args.clauses.now (length c.args.ints.now) (length c.args.bytes.now) c.args.c c.args.id c.args.i (sym c.table_ok.ensures ∙ c.if-not-table_ok.false) c.if-c-id.false o
 
-pub run_unweighted-requires-clause-lits_len_bound : goal.run_unweighted-requires-clause-lits_len_bound
-run_unweighted-requires-clause-lits_len_bound c = bounds c.args.nodes.now c.args.inputs.now c.args.keys.now c.args.lits.now c.args.marks.now c.args.clauses.now (length c.args.ints.now) (length c.args.bytes.now) c.args.c c.args.id c.args.i (sym c.table_ok.ensures ∙ c.if-not-table_ok.false)
+pub meet-requires-clause-lits_in_bounds : goal.meet-requires-clause-lits_in_bounds
+meet-requires-clause-lits_in_bounds c = room c.args.nodes.now c.args.inputs.now c.args.keys.now c.args.lits.now c.args.marks.now c.args.clauses.now (length c.args.ints.now) (length c.args.bytes.now) c.args.c c.args.id c.args.i (sym c.table_ok.ensures ∙ c.if-not-table_ok.false) (sym c.work_ok.ensures ∙ c.if-not-work_ok.false)
+
+pub meet-requires-clause-lits_len_bound : goal.meet-requires-clause-lits_len_bound
+meet-requires-clause-lits_len_bound c = bounds c.args.nodes.now c.args.inputs.now c.args.keys.now c.args.lits.now c.args.marks.now c.args.clauses.now (length c.args.ints.now) (length c.args.bytes.now) c.args.c c.args.id c.args.i (sym c.table_ok.ensures ∙ c.if-not-table_ok.false)
 
 pub returns-clause-value : goal.returns-clause-value
 returns-clause-value c = let o : c.args.i < value_count (node_at c.args.nodes.now c.args.id) = omega (arith, c.if-value_count-i.false, c.value_count.ensures, ap value_count c.node_at-n.ensures) in
-    let a = answered c.args.nodes.now c.args.inputs.now c.args.keys.now c.args.lits.now c.args.marks.now c.args.clauses.now (length c.args.ints.now) (length c.args.bytes.now) c.args.c c.args.id c.args.i (want_of c.args.semantics) (sym c.table_ok.ensures ∙ c.if-not-table_ok.false) (sym c.work_ok.ensures ∙ c.if-not-work_ok.false) c.if-c-id.false (λ z. c.if-n-eq2.false (ap (λ (m : Node). m.kind) c.node_at-n.ensures ∙ z)) o _ c.want_of-want.ensures _ _ _ _ c.run_unweighted.ensures in a.0
+    let a = answered c.args.nodes.now c.args.inputs.now c.args.keys.now c.args.lits.now c.args.marks.now c.args.clauses.now (length c.args.ints.now) (length c.args.bytes.now) c.args.c c.args.id c.args.i (want_of c.args.semantics) (sym c.table_ok.ensures ∙ c.if-not-table_ok.false) (sym c.work_ok.ensures ∙ c.if-not-work_ok.false) c.if-c-id.false (λ z. c.if-n-eq2.false (ap (λ (m : Node). m.kind) c.node_at-n.ensures ∙ z)) o _ c.from.ensures _ _ _ _ c.meet.ensures in a.0

@@ -1,16 +1,14 @@
 use mathlib.Core.Path.{◌≡◌}
 use mathlib.Core.List.{List}
-use Prim.Native.Nat.{ℕ, ◌+◌, ◌-◌, ◌*◌, ◌≤◌}
-use lib.ListN.{length}
+use Prim.Native.Nat.{ℕ, ◌+◌, ◌*◌, ◌≤◌}
 use lib.IntN.{ℤ}
 use Rattle.paper.specs.Plain.{St}
 use Rattle.clause.specs.Row.{Row, lay}
 use Rattle.paper.specs.Span.{span}
 use Rattle.paper.specs.Weighted.{weigh, way_of, link_of}
-use Rattle.count.specs.Run.{Fit, state}
+use Rattle.count.specs.Encoding.{state_of, SameRows, FitFor}
 use Rattle.sum.specs.Ways.{pairs_of}
-use Prim.Native.Nat.{ℕ}
-use Rattle.sum.proofs.+link_links_pairs_weigh.Given as goal
+use Rattle.sum.proofs.+weighted.Given as goal
 
 abbrev pub each : ℕ → List ℕ → List ℤ → List ℕ → ℕ → ℕ → ℕ → ℕ → St Row → St Row
 each f ns ins keys k at v j t = link_of lay (weigh lay f ns ins keys) ns ins k at (way_of ns keys k v j) t
@@ -29,9 +27,5 @@ decreases-weigh l = 4 * l.id + 3
 
 abbrev pub invariant-pairs-loop-k : goal.invariant-pairs-loop-k
 invariant-pairs-loop-k l =
-    Fit l.nodes l.inputs l.lits l.marks l.r × (length l.lits ≡ length l.initial.lits) × (length l.marks ≡ length l.initial.marks) × (length l.row ≡ length l.initial.row)
-    × ((f : ℕ) → l.id ≤ f → span l.k l.to (each f l.nodes l.inputs l.keys l.id l.at l.v) (state l.lits l.marks l.row l.r) ≡ pairs_of (weigh lay f l.nodes l.inputs l.keys) l.nodes l.inputs l.keys l.id l.at l.v (state l.initial.lits l.initial.marks l.initial.row l.initial.r))
-
-abbrev pub decreases-pairs-loop-k : goal.decreases-pairs-loop-k
-decreases-pairs-loop-k l =
-    l.to - l.k
+    FitFor l.tree l.encoder × SameRows l.initial.encoder l.encoder
+    × ((f : ℕ) → l.id ≤ f → span l.k l.k-end (each f l.tree.nodes.now l.tree.inputs.now l.tree.keys.now l.id l.at l.v) (state_of l.encoder) ≡ pairs_of (weigh lay f l.tree.nodes.now l.tree.inputs.now l.tree.keys.now) l.tree.nodes.now l.tree.inputs.now l.tree.keys.now l.id l.at l.v (state_of l.initial.encoder))
