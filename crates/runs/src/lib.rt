@@ -13,24 +13,14 @@ pub fn copy_lits(src: &[i32], dst: &mut [i32])
     requires { length dst.old ≡ length src.now }
     ensures { dst.new ≡ src.now }
 {
-    let mut k = 0;
-    while k < src.len() {
-        let v = src[k];
-        dst[k] = v;
-        k += 1;
-    }
+    dst.copy_from_slice(src);
 }
 
 pub fn copy_marks(src: &[u8], dst: &mut [u8])
     requires { length dst.old ≡ length src.now }
     ensures { dst.new ≡ src.now }
 {
-    let mut k = 0;
-    while k < src.len() {
-        let v = src[k];
-        dst[k] = v;
-        k += 1;
-    }
+    dst.copy_from_slice(src);
 }
 
 // An output's literal, where it lies.
