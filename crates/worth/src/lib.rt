@@ -72,11 +72,9 @@ pub fn values(nodes: &[u32], inputs: &[i32], assign: &[u8], work: &mut [i32], id
     requires sound { Sound nodes.now inputs.now assign.now id }
     ensures { result ≡ value_of (id + 1) nodes.now inputs.now assign.now id }
 {
-    let mut i = 0;
-    while i <= id {
+    for i in 0..id + 1 {
         let v = node_value(nodes, inputs, assign, work, i);
         work[i] = v as i32;
-        i += 1;
     }
     rows::variable(work[id]) as usize
 }
@@ -88,11 +86,5 @@ pub fn assigned(assign: &[u8], n: usize) -> bool
     if assign.len() < n {
         return false;
     }
-    let mut ok = true;
-    let mut i = 0;
-    while i < n {
-        ok = ok & (assign[i] <= 1);
-        i += 1;
-    }
-    ok
+    assign[..n].iter().all(|b| *b <= 1)
 }

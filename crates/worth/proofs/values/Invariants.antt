@@ -5,7 +5,4 @@ use Rattle.worth.proofs.Worth.{Held}
 use Rattle.worth.proofs.values.Given as goal
 
 abbrev pub invariant-loop-i : goal.invariant-loop-i
-invariant-loop-i l = (l.i ≤ l.id + 1) × (length l.work ≡ length l.initial.work) × Held l.nodes l.inputs l.assign l.work l.i
-
-abbrev pub decreases-loop-i : goal.decreases-loop-i
-decreases-loop-i l = l.id + 1 - l.i
+invariant-loop-i l = (length l.work ≡ length l.initial.work) × Held l.nodes l.inputs l.assign l.work l.i
