@@ -1,11 +1,9 @@
-// What the calls say. specs/Numbers.antt of the crate `paper` has the same as definitions.
-ghost use Rattle.std.specs.Prelude.{◌≡◌, IfOk, IfErr, Some};
-
+// What the calls say, as specs/Numbers.antt of the crate `paper` has it.
 use paper::{Added, Begun, Counters, Demanded, Kept, Refusal, Valued};
 use std::fmt;
 
 // What a done call gives back: an id, a value or a literal; the number 0 where it gives nothing.
-#[derive(Clone, Copy)]
+#[derive(Clone, Copy, Debug)]
 pub enum Given {
     Number(usize),
     Literal(i32),
@@ -18,85 +16,132 @@ pub struct Said {
     pub counters: Counters,
 }
 
-// A refused call leaves the counters as they were.
-fn told(outcome: Result<(Given, Counters), Refusal>, before: Counters) -> Said
-    ensures done { IfOk outcome (λ x. (result.given ≡ Ok x.0) × (result.counters ≡ x.1)) }
-    ensures refused { IfErr outcome (λ why. (result.given ≡ Err why) × (result.counters ≡ before)) }
-{
-    match outcome {
-        Ok((given, counters)) => Said {
+// The answer of a call.
+pub trait Answer {
+    ghost use Rattle.std.specs.Prelude.{◌≡◌};
+    ghost use Rattle.paper.specs.declared.Counters.{Counters};
+    ghost use Rattle.paper.specs.Numbers.{Said as Told};
+    ghost use Rattle.plans.specs.Heads.{told_of};
+
+    // What document 01 has it say, with the counters before the call.
+    ghost says: { Self → Counters → Told };
+
+    fn said(self, before: Counters) -> Said
+        ensures { told_of result.given result.counters ≡ says self before };
+}
+
+impl Said {
+    ghost use Rattle.std.specs.Prelude.{◌≡◌};
+
+    fn done(given: Given, after: Counters) -> Said
+        ensures given { result.given ≡ Ok given }
+        ensures counters { result.counters ≡ after }
+    {
+        Said {
             given: Ok(given),
-            counters,
-        },
-        Err(why) => Said {
+            counters: after,
+        }
+    }
+
+    // A refused call leaves the counters as they were.
+    fn refused(why: Refusal, before: Counters) -> Said
+        ensures given { result.given ≡ Err why }
+        ensures counters { result.counters ≡ before }
+    {
+        Said {
             given: Err(why),
             counters: before,
-        },
+        }
     }
 }
 
-pub fn begun_said(a: Begun, c: Counters) -> Said {
-    told(
-        match a {
-            Begun::Made(d) => Ok((Given::Number(0), d)),
-            Begun::NotMade(why) => Err(why),
-        },
-        c,
-    )
+impl Answer for Begun {
+    ghost use Rattle.paper.specs.Numbers.{begun_said};
+
+    ghost says = { begun_said };
+
+    fn said(self, before: Counters) -> Said {
+        match self {
+            Begun::Made(after) => Said::done(Given::Number(0), after),
+            Begun::NotMade(why) => Said::refused(why, before),
+        }
+    }
 }
 
-pub fn added_said(a: Added, c: Counters) -> Said {
-    told(
-        match a {
-            Added::Done(id, d) => Ok((Given::Number(id), d)),
-            Added::Refused(why) => Err(why),
-        },
-        c,
-    )
+impl Answer for Added {
+    ghost use Rattle.paper.specs.Numbers.{added_said};
+
+    ghost says = { added_said };
+
+    fn said(self, before: Counters) -> Said {
+        match self {
+            Added::Done(id, after) => Said::done(Given::Number(id), after),
+            Added::Refused(why) => Said::refused(why, before),
+        }
+    }
 }
 
-pub fn demanded_said(a: Demanded, c: Counters) -> Said {
-    told(
-        match a {
-            Demanded::Given(x, d) => Ok((Given::Literal(x), d)),
-            Demanded::NotGiven(why) => Err(why),
-        },
-        c,
-    )
+impl Answer for Demanded {
+    ghost use Rattle.paper.specs.Numbers.{demanded_said};
+
+    ghost says = { demanded_said };
+
+    fn said(self, before: Counters) -> Said {
+        match self {
+            Demanded::Given(x, after) => Said::done(Given::Literal(x), after),
+            Demanded::NotGiven(why) => Said::refused(why, before),
+        }
+    }
 }
 
-pub fn kept_said(a: Kept, c: Counters) -> Said {
-    told(
-        match a {
-            Kept::Did(d) => Ok((Given::Number(0), d)),
-            Kept::DidNot(why) => Err(why),
-        },
-        c,
-    )
+impl Answer for Kept {
+    ghost use Rattle.paper.specs.Numbers.{kept_said};
+
+    ghost says = { kept_said };
+
+    fn said(self, before: Counters) -> Said {
+        match self {
+            Kept::Did(after) => Said::done(Given::Number(0), after),
+            Kept::DidNot(why) => Said::refused(why, before),
+        }
+    }
 }
 
-pub fn valued_said(a: Valued, c: Counters) -> Said {
-    told(
-        match a {
-            Valued::Worth(v) => Ok((Given::Number(v), c)),
-            Valued::NotValued(why) => Err(why),
-        },
-        c,
-    )
+impl Answer for Valued {
+    ghost use Rattle.paper.specs.Numbers.{valued_said};
+
+    ghost says = { valued_said };
+
+    fn said(self, before: Counters) -> Said {
+        match self {
+            Valued::Worth(v) => Said::done(Given::Number(v), before),
+            Valued::NotValued(why) => Said::refused(why, before),
+        }
+    }
 }
 
-pub fn checked_said(ok: bool, c: Counters) -> Said {
-    told(
-        if ok {
-            Ok((Given::Number(0), c))
+// The table check.
+impl Answer for bool {
+    ghost use Rattle.plans.specs.Heads.{checked_said};
+
+    ghost says = { checked_said };
+
+    fn said(self, before: Counters) -> Said {
+        if self {
+            Said::done(Given::Number(0), before)
         } else {
-            Err(Refusal::TableFails)
-        },
-        c,
-    )
+            Said::refused(Refusal::TableFails, before)
+        }
+    }
 }
 
 impl fmt::Display for Given {
+    ghost use Rattle.std.specs.Prelude.{Some};
+    ghost use Rattle.std.specs.Fmt.{signed_decimal};
+    ghost use Rattle.plans.specs.Heads.{value_of};
+
+    ghost output = { λ g. Some (signed_decimal (value_of g)) };
+
     fn fmt<W: fmt::Write>(&self, f: &mut fmt::Formatter<W>) -> fmt::Result {
         match self {
             Given::Number(n) => write!(f, "{n}"),
@@ -105,8 +150,13 @@ impl fmt::Display for Given {
     }
 }
 
-// Document 01's number of the refusal, or 0, and what is given back, or 0.
+// Document 01's number, and what is given back; each is 0 where there is none.
 impl fmt::Display for Said {
+    ghost use Rattle.std.specs.Prelude.{Some};
+    ghost use Rattle.plans.specs.Heads.{told_of, head_text};
+
+    ghost output = { λ s. Some (head_text (told_of s.given s.counters)) };
+
     fn fmt<W: fmt::Write>(&self, f: &mut fmt::Formatter<W>) -> fmt::Result {
         match self.given {
             Ok(given) => write!(f, "0 {given}"),

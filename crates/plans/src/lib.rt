@@ -6,6 +6,6 @@ mod answer;
 mod command;
 mod decimal;
 
-pub use answer::{Given, Said, added_said, begun_said, checked_said, demanded_said, kept_said, valued_said};
+pub use answer::{Answer, Given, Said};
 pub use command::{Call, Command, Counter, Entry, Lengths, LineError, LONGEST};
 pub use decimal::number;
