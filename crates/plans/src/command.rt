@@ -1,10 +1,13 @@
 // The commands, and how a line is read into one: a name, then its words, then nothing more.
+ghost use Rattle.std.specs.Prelude.{◌≡◌, ◌≢◌, ◌<◌, ◌↔◌, IsTrue, IfOk, slice_get, length};
+ghost use Rattle.plans.specs.Commands.{Fit, direction_of};
+
 use crate::number;
 use paper::{Pair, Semantics};
 use std::alloc::{AllocError, Global};
 use std::num::ParseIntError;
 use std::str;
-use std::str::FromStr;
+use std::str::{FromStr, Utf8Error};
 
 // A longer line can only be a comment.
 pub const LONGEST: usize = 65536;
@@ -14,6 +17,12 @@ pub const LONGEST: usize = 65536;
 pub enum LineError {
     Unreadable,
     OutOfMemory,
+}
+
+impl From<Utf8Error> for LineError {
+    fn from(_error: Utf8Error) -> LineError {
+        LineError::Unreadable
+    }
 }
 
 impl From<ParseIntError> for LineError {
@@ -43,7 +52,9 @@ pub struct Lengths {
 
 impl Lengths {
     // Rows of these lengths are no longer than `own`.
-    pub fn fit(self, own: Lengths) -> bool {
+    pub fn fit(self, own: Lengths) -> bool
+        ensures { IsTrue result ↔ Fit self own }
+    {
         self.nodes <= own.nodes
             && self.inputs <= own.inputs
             && self.keys <= own.keys
@@ -52,6 +63,27 @@ impl Lengths {
             && self.clauses <= own.clauses
             && self.ints <= own.ints
             && self.bytes <= own.bytes
+    }
+}
+
+// A number for each row, and nothing more.
+impl TryFrom<&[&str]> for Lengths {
+    type Error = LineError;
+
+    fn try_from(words: &[&str]) -> Result<Lengths, LineError> {
+        let [nodes, inputs, keys, lits, marks, clauses, ints, bytes] = *words else {
+            return Err(LineError::Unreadable);
+        };
+        Ok(Lengths {
+            nodes: number(nodes)?,
+            inputs: number(inputs)?,
+            keys: number(keys)?,
+            lits: number(lits)?,
+            marks: number(marks)?,
+            clauses: number(clauses)?,
+            ints: number(ints)?,
+            bytes: number(bytes)?,
+        })
     }
 }
 
@@ -111,6 +143,10 @@ pub enum Command {
 impl FromStr for Counter {
     type Err = LineError;
 
+    ghost use Rattle.plans.specs.Commands.{NamesCounter};
+
+    ghost from_str_gives = { NamesCounter };
+
     fn from_str(name: &str) -> Result<Counter, LineError> {
         match name {
             "F" => Ok(Counter::First),
@@ -142,7 +178,9 @@ impl Entry {
     }
 }
 
-fn semantics_of(direction: &str) -> Result<Semantics, LineError> {
+fn semantics_of(direction: &str) -> Result<Semantics, LineError>
+    ensures { IfOk result (λ d. direction.now ≡ direction_of d) }
+{
     match direction {
         "if" => Ok(Semantics::If),
         "onlyif" => Ok(Semantics::OnlyIf),
@@ -156,7 +194,8 @@ fn bits_of(alloc: Global, digits: &str) -> Result<Vec<u8>, LineError> {
     if !digits.bytes().all(|b| b.is_ascii_digit()) {
         return Err(LineError::Unreadable);
     }
-    Ok(digits.bytes().map(|b| b.saturating_sub(b'0')).collect(alloc)?)
+    let bits = digits.bytes().map(|b| b.saturating_sub(b'0'));
+    Ok(bits.collect(alloc)?)
 }
 
 impl Call {
@@ -190,19 +229,20 @@ impl Call {
 
 impl Command {
     // The command of a line, without what ends the line. An empty line and a comment have none.
-    pub fn parse(alloc: Global, line: &[u8]) -> Result<Option<Command>, LineError> {
+    pub fn parse(alloc: Global, line: &[u8]) -> Result<Option<Command>, LineError>
+        ensures comment { slice_get line.now 0 ≡ Some 35 → result ≡ Ok None }
+        ensures too_long { slice_get line.now 0 ≢ Some 35 → LONGEST < length line.now
+            → result ≡ Err LineError.Unreadable }
+    {
         if line.starts_with(b"#") {
             return Ok(None);
         }
         if line.len() > LONGEST {
             return Err(LineError::Unreadable);
         }
-        let Ok(text) = str::from_utf8(line) else {
-            return Err(LineError::Unreadable);
-        };
 
         // A carriage return is the end of a line that ends in two bytes.
-        let words: Vec<&str> = text
+        let words: Vec<&str> = str::from_utf8(line)?
             .split([' ', '\t', '\r'])
             .filter(|word| !word.is_empty())
             .collect(alloc)?;
@@ -214,18 +254,7 @@ impl Command {
 
     fn from_words(alloc: Global, words: &[&str]) -> Result<Command, LineError> {
         match *words {
-            ["rows", nodes, inputs, keys, lits, marks, clauses, ints, bytes] => {
-                Ok(Command::Rows(Lengths {
-                    nodes: number(nodes)?,
-                    inputs: number(inputs)?,
-                    keys: number(keys)?,
-                    lits: number(lits)?,
-                    marks: number(marks)?,
-                    clauses: number(clauses)?,
-                    ints: number(ints)?,
-                    bytes: number(bytes)?,
-                }))
-            }
+            ["rows", ref lengths @ ..] => Ok(Command::Rows(Lengths::try_from(lengths)?)),
             ["poke", row, i, value] => Ok(Command::Poke(number(i)?, Entry::parse(row, value)?)),
             ["set", counter, value] => Ok(Command::Set(counter.parse()?, number(value)?)),
             ["dump"] => Ok(Command::Dump),

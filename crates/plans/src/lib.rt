@@ -7,5 +7,5 @@ mod command;
 mod decimal;
 
 pub use answer::{Answer, Given, Said};
-pub use command::{Call, Command, Counter, Entry, Lengths, LineError, LONGEST};
+pub use command::{Call, Command, Counter, Entry, LONGEST, Lengths, LineError};
 pub use decimal::number;
