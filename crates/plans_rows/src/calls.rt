@@ -1,11 +1,15 @@
 // The public calls of document 01, on the rows.
+ghost use Rattle.std.specs.Prelude.{◌≡◌};
+
 use crate::Db;
 use paper::{Pair, Semantics};
-use plans::{Call, Said, added_said, begun_said, checked_said, demanded_said, kept_said, valued_said};
+use plans::{Answer, Call, Said};
 
 impl Db {
     // What the call says; the counters are those after it.
-    pub fn call(&mut self, call: Call) -> Said {
+    pub fn call(&mut self, call: Call) -> Said
+        ensures { self.new.counters ≡ result.counters }
+    {
         let said = self.called(call);
         self.counters = said.counters;
         said
@@ -13,7 +17,7 @@ impl Db {
 
     fn called(&mut self, call: Call) -> Said {
         match call {
-            Call::Fresh(first, last) => begun_said(door::fresh(first, last), self.counters),
+            Call::Fresh(first, last) => door::fresh(first, last).said(self.counters),
             Call::Leaf(x) => self.leaf(x),
             Call::Dummy => self.dummy(),
             Call::Join(j) => self.inner(j),
@@ -29,7 +33,7 @@ impl Db {
 
     fn leaf(&mut self, x: i32) -> Said {
         let c = self.counters;
-        let answer = door::leaf(
+        door::leaf(
             &mut self.nodes,
             &mut self.inputs,
             &self.keys,
@@ -38,13 +42,13 @@ impl Db {
             &self.clauses,
             c,
             x,
-        );
-        added_said(answer, c)
+        )
+        .said(c)
     }
 
     fn dummy(&mut self) -> Said {
         let c = self.counters;
-        let answer = door::dummy(
+        door::dummy(
             &mut self.nodes,
             &self.inputs,
             &self.keys,
@@ -52,13 +56,13 @@ impl Db {
             &self.marks,
             &self.clauses,
             c,
-        );
-        added_said(answer, c)
+        )
+        .said(c)
     }
 
     fn inner(&mut self, j: Pair) -> Said {
         let c = self.counters;
-        let answer = door::inner(
+        door::inner(
             &mut self.nodes,
             &self.inputs,
             &mut self.keys,
@@ -67,13 +71,13 @@ impl Db {
             &self.clauses,
             c,
             j,
-        );
-        added_said(answer, c)
+        )
+        .said(c)
     }
 
     fn define_unweighted(&mut self, id: usize, i: usize, semantics: Semantics) -> Said {
         let c = self.counters;
-        let answer = door::define_unweighted(
+        door::define_unweighted(
             &self.nodes,
             &self.inputs,
             &self.keys,
@@ -86,13 +90,13 @@ impl Db {
             id,
             i,
             semantics,
-        );
-        demanded_said(answer, c)
+        )
+        .said(c)
     }
 
     fn define_weighted(&mut self, id: usize, v: usize) -> Said {
         let c = self.counters;
-        let answer = door::define_weighted(
+        door::define_weighted(
             &self.nodes,
             &self.inputs,
             &self.keys,
@@ -104,13 +108,13 @@ impl Db {
             c,
             id,
             v,
-        );
-        demanded_said(answer, c)
+        )
+        .said(c)
     }
 
     fn reserve_vars(&mut self, root: usize) -> Said {
         let c = self.counters;
-        let answer = door::reserve_vars(
+        door::reserve_vars(
             &self.nodes,
             &self.inputs,
             &self.keys,
@@ -121,13 +125,13 @@ impl Db {
             &mut self.bytes,
             c,
             root,
-        );
-        kept_said(answer, c)
+        )
+        .said(c)
     }
 
     fn reset(&mut self) -> Said {
         let c = self.counters;
-        let answer = door::reset(
+        door::reset(
             &self.nodes,
             &self.inputs,
             &self.keys,
@@ -135,13 +139,13 @@ impl Db {
             &mut self.marks,
             &self.clauses,
             c,
-        );
-        kept_said(answer, c)
+        )
+        .said(c)
     }
 
     fn empty_clauses(&self) -> Said {
         let c = self.counters;
-        let answer = door::empty_clauses(
+        door::empty_clauses(
             &self.nodes,
             &self.inputs,
             &self.keys,
@@ -149,13 +153,13 @@ impl Db {
             &self.marks,
             &self.clauses,
             c,
-        );
-        kept_said(answer, c)
+        )
+        .said(c)
     }
 
     fn value(&mut self, id: usize, assign: &[u8]) -> Said {
         let c = self.counters;
-        let answer = door::value(
+        door::value(
             &self.nodes,
             &self.inputs,
             &self.keys,
@@ -167,13 +171,13 @@ impl Db {
             c,
             id,
             assign,
-        );
-        valued_said(answer, c)
+        )
+        .said(c)
     }
 
     fn check(&self) -> Said {
         let c = self.counters;
-        let ok = door::check(
+        door::check(
             &self.nodes,
             &self.inputs,
             &self.keys,
@@ -181,7 +185,7 @@ impl Db {
             &self.marks,
             &self.clauses,
             c,
-        );
-        checked_said(ok, c)
+        )
+        .said(c)
     }
 }

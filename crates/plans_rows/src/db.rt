@@ -1,4 +1,6 @@
 // The rows, each as long as it is lent, with the counters; and the commands that are for the plans alone: `rows`, `poke`, `set`.
+ghost use Rattle.std.specs.Prelude.{◌≡◌, ◌<◌, ◌≤◌, ◌↔◌, IsOk, IfOk, OnOk, OnErr, length, vec_len, slice_set};
+
 use paper::{CELL_LIMIT, Counters, NODE_LIMIT, NODE_WORDS};
 use plans::{Counter, Entry, Lengths, LineError};
 use std::alloc::{AllocError, Global};
@@ -46,22 +48,38 @@ const AT_START: Counters = Counters {
     words: 0,
 };
 
-fn put<T: Drop>(row: &mut [T], i: usize, x: T) -> Result<(), LineError> {
-    let place = row.get_mut(i).ok_or(LineError::Unreadable)?;
-    *place = x;
+fn put<T: Drop>(row: &mut [T], i: usize, x: T) -> Result<(), LineError>
+    ensures ok { OnOk result (row.new ≡ slice_set row.old i x) }
+    ensures err { OnErr result (row.new ≡ row.old) }
+    ensures inside { IsOk result ↔ (i < length row.old) }
+{
+    // Through `get_mut` the clauses do not close.
+    if i >= row.len() {
+        return Err(LineError::Unreadable);
+    }
+    row[i] = x;
     Ok(())
 }
 
-fn within(length: usize, own: usize) -> Result<usize, LineError> {
-    if length > own {
+// A working area cannot be longer than the program's own.
+fn within(len: usize, own: usize) -> Result<usize, LineError>
+    ensures same { IfOk result (λ n. n ≡ len) }
+    ensures inside { IsOk result ↔ (len ≤ own) }
+{
+    if len > own {
         return Err(LineError::Unreadable);
     }
-    Ok(length)
+    Ok(len)
 }
 
 impl Db {
+    ghost use Rattle.plans_rows.specs.Rows.{lengths_of, at_start, counted};
+
     // Rows and counters all 0.
-    pub fn new(alloc: Global, n: Lengths, work: Work) -> Result<Db, AllocError> {
+    pub fn new(alloc: Global, n: Lengths, work: Work) -> Result<Db, AllocError>
+        ensures lengths { IfOk result (λ db. lengths_of db ≡ n) }
+        ensures counters { IfOk result (λ db. db.counters ≡ at_start) }
+    {
         Ok(Db {
             nodes: vec![in alloc; 0; n.nodes]?,
             inputs: vec![in alloc; 0; n.inputs]?,
@@ -77,7 +95,10 @@ impl Db {
     }
 
     // Rows of other lengths, in place of these.
-    pub fn lend(&mut self, alloc: Global, n: Lengths) -> Result<(), LineError> {
+    pub fn lend(&mut self, alloc: Global, n: Lengths) -> Result<(), LineError>
+        ensures ok { OnOk result (lengths_of self.new ≡ n) }
+        ensures err { OnErr result (self.new ≡ self.old) }
+    {
         if !n.fit(OWN) {
             return Err(LineError::Unreadable);
         }
@@ -85,7 +106,10 @@ impl Db {
         Ok(())
     }
 
-    pub fn poke(&mut self, i: usize, entry: Entry) -> Result<(), LineError> {
+    pub fn poke(&mut self, i: usize, entry: Entry) -> Result<(), LineError>
+        ensures lengths { lengths_of self.new ≡ lengths_of self.old }
+        ensures counters { self.new.counters ≡ self.old.counters }
+    {
         match entry {
             Entry::Words(x) => put(&mut self.nodes, i, x),
             Entry::Inputs(x) => put(&mut self.inputs, i, x),
@@ -96,7 +120,9 @@ impl Db {
         }
     }
 
-    pub fn set(&mut self, counter: Counter, v: usize) -> Result<(), LineError> {
+    pub fn set(&mut self, counter: Counter, v: usize) -> Result<(), LineError>
+        ensures ok { OnOk result (counted counter self.new ≡ v) }
+    {
         match counter {
             Counter::First => self.counters.first = v,
             Counter::Next => self.counters.next = v,

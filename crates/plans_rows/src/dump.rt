@@ -1,10 +1,14 @@
 // What `dump` says: the number 0, and the nodes in use that lie in the row, joined by ` ; `.
+ghost use Rattle.std.specs.Prelude.{◌≡◌, take, drop};
+
 use crate::Db;
 use paper::{NODE_WORDS, Node};
 use std::fmt;
 
 // The entries from `first` on, as many as `count` where there are as many.
-fn part<T>(row: &[T], first: usize, count: usize) -> &[T] {
+fn part<T>(row: &[T], first: usize, count: usize) -> &[T]
+    ensures { result.now ≡ take count (drop first row.now) }
+{
     let rest = row.get(first..).unwrap_or(&[]);
     rest.get(..count).unwrap_or(rest)
 }
