@@ -1,8 +1,10 @@
 -- The lengths of the rows, and what `set` writes.
-use Rattle.std.specs.Prelude.{ℕ, vec_len}
+use Rattle.std.specs.Prelude.{ℕ, ◌≡◌, Some, slice_get, vec_len}
 use Rattle.paper.specs.declared.Counters.{Counters}
 use Rattle.plans.specs.declared.command.Counter.{Counter}
 use Rattle.plans.specs.declared.command.Counter.TheVariants.{First, Next, Last, Nodes, Ins, Cells, Length, WorkInt, WorkByte}
+use Rattle.plans.specs.declared.command.Entry.{Entry}
+use Rattle.plans.specs.declared.command.Entry.TheVariants.{Words, Inputs, Keys, Lits, Marks, Clauses}
 use Rattle.plans.specs.declared.command.Lengths.{Lengths}
 use Rattle.plans_rows.specs.declared.db.Db.{Db}
 
@@ -31,3 +33,12 @@ counted Cells db = db.counters.cells
 counted Length db = db.counters.words
 counted WorkInt db = vec_len db.ints
 counted WorkByte db = vec_len db.bytes
+
+-- the entry stands at i of its row
+abbrev pub Holds : Entry → ℕ → Db → Type 0
+Holds (Words x) i db = slice_get db.nodes.items i ≡ Some x
+Holds (Inputs x) i db = slice_get db.inputs.items i ≡ Some x
+Holds (Keys x) i db = slice_get db.keys.items i ≡ Some x
+Holds (Lits x) i db = slice_get db.lits.items i ≡ Some x
+Holds (Marks x) i db = slice_get db.marks.items i ≡ Some x
+Holds (Clauses x) i db = slice_get db.clauses.items i ≡ Some x

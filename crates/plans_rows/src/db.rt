@@ -73,7 +73,8 @@ fn within(len: usize, own: usize) -> Result<usize, LineError>
 }
 
 impl Db {
-    ghost use Rattle.plans_rows.specs.Rows.{lengths_of, at_start, counted};
+    ghost use Rattle.plans.specs.Commands.{Fit};
+    ghost use Rattle.plans_rows.specs.Rows.{lengths_of, at_start, counted, Holds};
 
     // Rows and counters all 0.
     pub fn new(alloc: Global, n: Lengths, work: Work) -> Result<Db, AllocError>
@@ -97,6 +98,7 @@ impl Db {
     // Rows of other lengths, in place of these.
     pub fn lend(&mut self, alloc: Global, n: Lengths) -> Result<(), LineError>
         ensures ok { OnOk result (lengths_of self.new ≡ n) }
+        ensures inside { OnOk result (Fit n OWN) }
         ensures err { OnErr result (self.new ≡ self.old) }
     {
         if !n.fit(OWN) {
@@ -107,6 +109,7 @@ impl Db {
     }
 
     pub fn poke(&mut self, i: usize, entry: Entry) -> Result<(), LineError>
+        ensures ok { OnOk result (Holds entry i self.new) }
         ensures lengths { lengths_of self.new ≡ lengths_of self.old }
         ensures counters { self.new.counters ≡ self.old.counters }
     {

@@ -98,3 +98,50 @@ pub fn play<R: BufRead, W: Write>(
     }
     out.flush()
 }
+
+#[cfg(test)]
+mod tests {
+    use super::*;
+    use std::str;
+    use std::test::Fail;
+
+    const PLAN: &str =
+        "rows 80 9 9 9 9 99 9 9\nfresh 4 9\n# a comment\n\nleaf 1\nleaf -2\r\njoin 0 1 1 1\n\
+        count 2 1 if\nvalue 2 101\nset work_int 12\npoke marks 1 300\nleaf +1\ndump";
+
+    const BESIDE: &str =
+        "rows 80 9 9 9 9 99 9 9 => 0 0 | | 0\nfresh 4 9 => 0 0 | | 4\n# a comment\n\n\
+        leaf 1 => 0 0 | | 4\nleaf -2\r => 0 1 | | 4\njoin 0 1 1 1 => 0 2 | | 4\n\
+        count 2 1 if => 0 4 | -1 2 4 0 | 5\nvalue 2 101 => 0 2 | | 5\nset work_int 12 => 0 0 | | 5\n\
+        poke marks 1 300 => bad | | 5\nleaf +1 => bad | | 5\n\
+        dump => 0 0 leaf 1 ; 1 leaf -2 ; 2 unit 0 1 1 1 depth 2 cells 1:0:0 2:4:1 | | 5\n";
+
+    // The answers are tools/paper.py's.
+    #[test]
+    fn answers_stand_beside_their_lines(rt: HostRuntime) -> Result<(), Fail> {
+        let alloc = rt.alloc();
+        let mut input = PLAN.as_bytes();
+        let mut out = Vec::new(alloc);
+        let work = Work { int: 3, byte: 4 };
+        play(alloc, &mut input, &mut out, work, true)?;
+        assert_eq!(rt; str::from_utf8(&out)?, BESIDE);
+        Ok(())
+    }
+
+    #[test]
+    fn long_lines_are_cut(rt: HostRuntime) -> Result<(), Fail> {
+        let alloc = rt.alloc();
+        for (len, kept) in [(65536, 65536), (65537, 65537), (70000, 65537)] {
+            let mut text = vec![in alloc; b'x'; len]?;
+            text.extend_from_slice(b"\ndump\n")?;
+            let mut input = text.as_slice();
+            let mut line = Vec::new(alloc);
+            assert!(rt; next_line(&mut input, &mut line));
+            assert_eq!(rt; line.len(), kept);
+            assert!(rt; next_line(&mut input, &mut line));
+            assert_eq!(rt; line.as_slice(), b"dump".as_slice());
+            assert!(rt; !next_line(&mut input, &mut line));
+        }
+        Ok(())
+    }
+}
