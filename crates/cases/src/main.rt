@@ -10,5 +10,11 @@ fn main(rt: HostRuntime) -> io::Result<()> {
     let alloc = rt.alloc();
     let mut input = BufReader::new(alloc, rt.reader())?;
     let mut out = BufWriter::new(alloc, io::writer(&rt))?;
-    plans_turns::play(alloc, &mut input, &mut out, Work { int: 77, byte: 88 }, true)
+    plans_turns::play(
+        alloc,
+        &mut input,
+        &mut out,
+        Work { int: 77, byte: 88 },
+        true,
+    )
 }

@@ -1,6 +1,9 @@
 // A plan carried out: each line of the input, and an answer for each on the output.
 #![tactic(auto)]
 
+ghost use Rattle.std.specs.Prelude.{◌≡◌, ◌++◌, ◌∷◌, [], true, false, take, codes, OnOk};
+ghost use Rattle.std.specs.Io.KnownBytes.{Appends};
+
 use plans::{Command, LONGEST, LineError};
 use plans_rows::{Db, OWN, Work};
 use std::alloc::Global;
@@ -63,10 +66,26 @@ fn next_line<R: BufRead>(input: &mut R, line: &mut Vec<u8>) -> bool {
     true
 }
 
+// The first n bytes, or all where there are fewer.
+fn front(line: &[u8], n: usize) -> &[u8]
+    ensures { result.now ≡ take n line.now }
+{
+    line.get(..n).unwrap_or(line)
+}
+
 // The line itself, before its answer. One that is passed over has none.
-fn put_line<W: Write>(out: &mut W, line: &[u8], answered: bool) -> io::Result<()> {
-    out.write_all(line.get(..LONGEST).unwrap_or(line))?;
-    out.write_all(if answered { b" => " } else { b"\n" })
+fn put_line<W: Write>(out: &mut W, line: &[u8], answered: bool) -> io::Result<()>
+    ensures answered { answered ≡ true → OnOk result (Appends (W.contents out.old) (W.contents out.new)
+        (take LONGEST line.now ++ codes " => ")) }
+    ensures passed { answered ≡ false → OnOk result (Appends (W.contents out.old) (W.contents out.new)
+        (take LONGEST line.now ++ 10 ∷ [])) }
+{
+    out.write_all(front(line, LONGEST))?;
+    if answered {
+        out.write_all(b" => ")
+    } else {
+        out.write_all(b"\n")
+    }
 }
 
 // An answer for each line; `beside` has each line stand before its answer. Before the first `rows` or `fresh` the rows are
