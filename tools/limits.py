@@ -35,12 +35,6 @@ def places(limit):
         others = ["[0-9]+"] * 6
         others[k] = NUMBER
         yield "tools/paper.py", "^NODES, CELLS, DEPTH, MUL, KEY, LAST = " + ", ".join(others) + "$", limit[name]
-    # the programs over plans, and their twin: one node, input and cell more than the limits
-    rows = dict(nodes=limit["words"] * (limit["node"] + 1), inputs=limit["node"] + 1)
-    rows.update(dict.fromkeys(("keys", "lits", "marks", "ints", "bytes"), limit["cell"] + 1))
-    for name, length in rows.items():
-        for program in ("replay", "cases"):
-            yield f"crates/{program}/src/main.rt", rf"^    let mut {name} = \[[0-9]+[iu][0-9]+; {NUMBER}\];$", length
     for file in (header, "bindings/rust/src/refusal.rs"):
         for pattern, want in sentences(limit):
             yield file, pattern, want

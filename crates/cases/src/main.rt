@@ -2,24 +2,19 @@
 // working area holds at first is no part of an answer: here it is full of other numbers.
 #![tactic(auto)]
 
-fn main() {
-    let mut nodes = [0u32; 32776];
-    let mut inputs = [0i32; 4097];
-    let mut keys = [0u32; 16385];
-    let mut lits = [0i32; 16385];
-    let mut marks = [0u8; 16385];
-    let mut clauses = [0i32; 1048576];
-    let mut ints = [77i32; 16385];
-    let mut bytes = [88u8; 16385];
+use plans_rows::Work;
+use std::io;
+use std::io::{BufReader, BufWriter};
+
+fn main(rt: HostRuntime) -> io::Result<()> {
+    let alloc = rt.alloc();
+    let mut input = BufReader::new(alloc, rt.reader())?;
+    let mut out = BufWriter::new(alloc, io::writer(&rt))?;
     plans_turns::play(
-        &mut nodes,
-        &mut inputs,
-        &mut keys,
-        &mut lits,
-        &mut marks,
-        &mut clauses,
-        &mut ints,
-        &mut bytes,
+        alloc,
+        &mut input,
+        &mut out,
+        Work { int: 77, byte: 88 },
         true,
-    );
+    )
 }

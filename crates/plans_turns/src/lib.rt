@@ -1,274 +1,166 @@
-// A plan carried out: each line, on the rows as they are lent.
+// A plan carried out: each line of the input, and an answer for each on the output.
 #![tactic(auto)]
 
-use plans::{Command, Lengths, Row};
-use plans_rows::{
-    Stage, bytes_to_read, front_bytes, front_ints, front_words, ints_to_read, words_to_read,
-};
-use plans_text::{Source, put_call, put_nodes};
+ghost use Rattle.std.specs.Prelude.{◌≡◌, ◌++◌, ◌∷◌, [], true, false, take, codes, OnOk};
+ghost use Rattle.std.specs.Io.KnownBytes.{Appends};
 
-// ---- a command, on each row's front, as long as `rows` said
+use plans::{Command, LONGEST, LineError};
+use plans_rows::{Db, OWN, Work};
+use std::alloc::Global;
+use std::fmt::Display;
+use std::io;
+use std::io::{BufRead, Read, Write};
 
-fn poked(
-    nodes: &mut [u32],
-    inputs: &mut [i32],
-    keys: &mut [u32],
-    lits: &mut [i32],
-    marks: &mut [u8],
-    clauses: &mut [i32],
-    row: Row,
-    i: usize,
-    text: &[u8],
-    out: &mut [u8],
-    t: Stage,
-) -> Stage {
-    let n = t.n;
-    let written = plans_rows::poke(
-        front_words(nodes, n.nodes),
-        front_ints(inputs, n.inputs),
-        front_words(keys, n.keys),
-        front_ints(lits, n.lits),
-        front_bytes(marks, n.marks),
-        front_ints(clauses, n.clauses),
-        row,
-        i,
-        text,
-    );
-    if written {
-        return plans_rows::done(out, t);
+// An answer is what is said, the words that the call appended to the clause row, and the next variable.
+fn put<W: Write, D: Display + Drop>(
+    out: &mut W,
+    said: D,
+    words: &[i32],
+    next: usize,
+) -> io::Result<()> {
+    write!(out, "{said} |")?;
+    for x in words {
+        write!(out, " {x}")?;
     }
-    plans_rows::unread(out, t)
+    writeln!(out, " | {next}")
 }
 
-fn dumped(
-    nodes: &[u32],
-    inputs: &[i32],
-    keys: &[u32],
-    lits: &[i32],
-    marks: &[u8],
-    out: &mut [u8],
-    t: Stage,
-) -> Stage {
-    let c = t.c;
-    let n = t.n;
-    let at = put_nodes(
-        out,
-        t.at,
-        words_to_read(nodes, n.nodes),
-        ints_to_read(inputs, n.inputs),
-        words_to_read(keys, n.keys),
-        ints_to_read(lits, n.lits),
-        bytes_to_read(marks, n.marks),
-        c,
-    );
-    Stage { c: c, n: n, at: at }
-}
-
-fn answered(
-    nodes: &mut [u32],
-    inputs: &mut [i32],
-    keys: &mut [u32],
-    lits: &mut [i32],
-    marks: &mut [u8],
-    clauses: &mut [i32],
-    ints: &mut [i32],
-    bytes: &mut [u8],
-    bits: &mut [u8],
-    line: &[u8],
-    k: Command,
-    out: &mut [u8],
-    t: Stage,
-) -> Stage {
-    let c = t.c;
-    let n = t.n;
-    let said = plans_calls::called(
-        front_words(nodes, n.nodes),
-        front_ints(inputs, n.inputs),
-        front_words(keys, n.keys),
-        front_ints(lits, n.lits),
-        front_bytes(marks, n.marks),
-        front_ints(clauses, n.clauses),
-        front_ints(ints, n.ints),
-        front_bytes(bytes, n.bytes),
-        bits,
-        line,
-        k,
-        c,
-    );
-    let at = put_call(out, t.at, clauses, c.words, said);
-    let after = said.counters;
-    Stage {
-        c: after,
-        n: n,
-        at: at,
+// The answer to a command that gives nothing back.
+fn put_done<W: Write>(out: &mut W, done: Result<(), LineError>, next: usize) -> io::Result<()> {
+    match done {
+        Ok(()) => put(out, "0 0", &[], next),
+        Err(LineError::Unreadable) => put(out, "bad", &[], next),
+        Err(LineError::OutOfMemory) => Err(io::Error::from(io::ErrorKind::OutOfMemory)),
     }
 }
 
-// ---- `rows`
-
-fn clear_nodes(nodes: &mut [u32], inputs: &mut [i32]) {
-    plans_rows::clear_words(nodes);
-    plans_rows::clear_ints(inputs);
-}
-
-fn clear_cells(keys: &mut [u32], lits: &mut [i32], marks: &mut [u8]) {
-    plans_rows::clear_words(keys);
-    plans_rows::clear_ints(lits);
-    plans_rows::clear_bytes(marks);
-}
-
-// Rows of other lengths, all 0.
-fn relent(
-    nodes: &mut [u32],
-    inputs: &mut [i32],
-    keys: &mut [u32],
-    lits: &mut [i32],
-    marks: &mut [u8],
-    clauses: &mut [i32],
-    n: Lengths,
-    out: &mut [u8],
-    t: Stage,
-) -> Stage {
-    clear_nodes(nodes, inputs);
-    clear_cells(keys, lits, marks);
-    plans_rows::clear_ints(clauses);
-    plans_rows::done(out, plans_rows::begin(n, t.at))
-}
-
-// ---- lines
-
-// A line of len bytes.
-fn turn(
-    nodes: &mut [u32],
-    inputs: &mut [i32],
-    keys: &mut [u32],
-    lits: &mut [i32],
-    marks: &mut [u8],
-    clauses: &mut [i32],
-    ints: &mut [i32],
-    bytes: &mut [u8],
-    bits: &mut [u8],
-    line: &[u8],
-    len: usize,
-    out: &mut [u8],
-    own: Lengths,
-    t: Stage,
-) -> Stage {
-    let k = plans_rows::command_of(line, len);
-    match k {
-        Command::Pass => t,
-        Command::Unreadable => plans_rows::unread(out, t),
-        Command::Set(counter, v) => plans_rows::set(out, t, counter, v, own.ints, own.bytes),
-        Command::Rows(n) => {
-            if plans_rows::fits(own, n) {
-                return relent(nodes, inputs, keys, lits, marks, clauses, n, out, t);
-            }
-            plans_rows::unread(out, t)
+fn turn<W: Write>(alloc: Global, db: &mut Db, command: Command, out: &mut W) -> io::Result<()> {
+    let done = match command {
+        Command::Call(call) => {
+            let before = db.counters.words;
+            let said = db.call(call);
+            return put(out, said, db.clause_words(before), db.counters.next);
         }
-        Command::Poke(row, i, p) => poked(
-            nodes,
-            inputs,
-            keys,
-            lits,
-            marks,
-            clauses,
-            row,
-            i,
-            plans::text_of(line, p),
-            out,
-            t,
-        ),
-        Command::Dump => dumped(nodes, inputs, keys, lits, marks, out, t),
-        _ => answered(
-            nodes, inputs, keys, lits, marks, clauses, ints, bytes, bits, line, k, out, t,
-        ),
-    }
-}
-
-fn is_pass(k: Command) -> bool {
-    match k {
-        Command::Pass => true,
-        _ => false,
-    }
-}
-
-// The line itself, where answers are to stand beside their lines. The end of the input is no line.
-fn shown(line: &[u8], s: Source, out: &mut [u8], beside: bool, t: Stage) -> Stage {
-    if (!beside) | (s.done & (s.len == 0)) {
-        return t;
-    }
-    let c = t.c;
-    let n = t.n;
-    let answers = !is_pass(plans_rows::command_of(line, s.len));
-    let at = plans_text::put_read(out, t.at, line, s.len, answers);
-    Stage { c: c, n: n, at: at }
-}
-
-// The lines, one after the other. A proved loop has to end, and nothing says that the input does. So the turns are counted
-// down, from a number that no run uses up.
-fn turns(
-    nodes: &mut [u32],
-    inputs: &mut [i32],
-    keys: &mut [u32],
-    lits: &mut [i32],
-    marks: &mut [u8],
-    clauses: &mut [i32],
-    ints: &mut [i32],
-    bytes: &mut [u8],
-    bits: &mut [u8],
-    read: &mut [u8],
-    line: &mut [u8],
-    out: &mut [u8],
-    own: Lengths,
-    beside: bool,
-) {
-    let mut t = plans_rows::begin(own, 0);
-    let mut s = plans_text::at_start();
-    let mut left = u64::MAX;
-    while left > 0 {
-        s = plans_text::next_line(read, line, s);
-        t = shown(line, s, out, beside, t);
-        t = turn(
-            nodes, inputs, keys, lits, marks, clauses, ints, bytes, bits, line, s.len, out, own, t,
-        );
-        if s.done {
-            plans_text::flush(out, t.at);
-            return;
-        }
-        left -= 1;
-    }
-}
-
-// The lines of standard input, and an answer for each on standard output; `beside` has each line stand before its answer.
-// These rows are the program's own. Before the first `rows` or `fresh` they have their own lengths, and the counters are 0.
-// The clause row is an array here: as a slice, its length would be a fact for the program to prove.
-pub fn play(
-    nodes: &mut [u32],
-    inputs: &mut [i32],
-    keys: &mut [u32],
-    lits: &mut [i32],
-    marks: &mut [u8],
-    clauses: &mut [i32; 1048576],
-    ints: &mut [i32],
-    bytes: &mut [u8],
-    beside: bool,
-) {
-    let own = Lengths {
-        nodes: nodes.len(),
-        inputs: inputs.len(),
-        keys: keys.len(),
-        lits: lits.len(),
-        marks: marks.len(),
-        clauses: clauses.len(),
-        ints: ints.len(),
-        bytes: bytes.len(),
+        Command::Dump => return put(out, &*db, &[], db.counters.next),
+        Command::Rows(lengths) => db.lend(alloc, lengths),
+        Command::Poke(i, entry) => db.poke(i, entry),
+        Command::Set(counter, v) => db.set(counter, v),
     };
-    let mut read = io::large_buffer();
-    let mut line = io::large_buffer();
-    let mut bits = io::large_buffer();
-    let mut out = io::large_buffer();
-    turns(
-        nodes, inputs, keys, lits, marks, clauses, ints, bytes, &mut bits, &mut read, &mut line,
-        &mut out, own, beside,
-    );
+    put_done(out, done, db.counters.next)
+}
+
+// The next line, without the byte that ends it, and whether there is one. Of a line that is longer than `LONGEST` it is one
+// byte more than that, so that no line takes more memory. A read that fails ends the input.
+fn next_line<R: BufRead>(input: &mut R, line: &mut Vec<u8>) -> bool {
+    line.clear();
+    let most = LONGEST as u64 + 1;
+    let _ = Read::take(input.by_ref(), most).read_until(b'\n', line);
+    if line.is_empty() {
+        return false;
+    }
+    if line.last() == Some(&b'\n') {
+        line.truncate(line.len() - 1);
+    } else if line.len() > LONGEST {
+        let _ = input.skip_until(b'\n');
+    }
+    true
+}
+
+// The first n bytes, or all where there are fewer.
+fn front(line: &[u8], n: usize) -> &[u8]
+    ensures { result.now ≡ take n line.now }
+{
+    line.get(..n).unwrap_or(line)
+}
+
+// The line itself, before its answer. One that is passed over has none.
+fn put_line<W: Write>(out: &mut W, line: &[u8], answered: bool) -> io::Result<()>
+    ensures answered { answered ≡ true → OnOk result (Appends (W.contents out.old) (W.contents out.new)
+        (take LONGEST line.now ++ codes " => ")) }
+    ensures passed { answered ≡ false → OnOk result (Appends (W.contents out.old) (W.contents out.new)
+        (take LONGEST line.now ++ 10 ∷ [])) }
+{
+    out.write_all(front(line, LONGEST))?;
+    if answered {
+        out.write_all(b" => ")
+    } else {
+        out.write_all(b"\n")
+    }
+}
+
+// An answer for each line; `beside` has each line stand before its answer. Before the first `rows` or `fresh` the rows are
+// as long as they can be, and the counters are 0.
+pub fn play<R: BufRead, W: Write>(
+    alloc: Global,
+    input: &mut R,
+    out: &mut W,
+    work: Work,
+    beside: bool,
+) -> io::Result<()> {
+    let mut db = Db::new(alloc, OWN, work)?;
+    let mut line = Vec::with_capacity(alloc, LONGEST + 1)?;
+
+    // Nothing says that the input ends, and a proved loop has to: no input has more lines than this.
+    for _ in 0..u64::MAX {
+        if !next_line(input, &mut line) {
+            break;
+        }
+        let command = Command::parse(alloc, &line);
+        if beside {
+            put_line(out, &line, !matches!(command, Ok(None)))?;
+        }
+        match command {
+            Ok(None) => {}
+            Ok(Some(command)) => turn(alloc, &mut db, command, out)?,
+            Err(error) => put_done(out, Err(error), db.counters.next)?,
+        }
+    }
+    out.flush()
+}
+
+#[cfg(test)]
+mod tests {
+    use super::*;
+    use std::str;
+    use std::test::Fail;
+
+    const PLAN: &str =
+        "rows 80 9 9 9 9 99 9 9\nfresh 4 9\n# a comment\n\nleaf 1\nleaf -2\r\njoin 0 1 1 1\n\
+        count 2 1 if\nvalue 2 101\nset work_int 12\npoke marks 1 300\nleaf +1\ndump";
+
+    const BESIDE: &str =
+        "rows 80 9 9 9 9 99 9 9 => 0 0 | | 0\nfresh 4 9 => 0 0 | | 4\n# a comment\n\n\
+        leaf 1 => 0 0 | | 4\nleaf -2\r => 0 1 | | 4\njoin 0 1 1 1 => 0 2 | | 4\n\
+        count 2 1 if => 0 4 | -1 2 4 0 | 5\nvalue 2 101 => 0 2 | | 5\nset work_int 12 => 0 0 | | 5\n\
+        poke marks 1 300 => bad | | 5\nleaf +1 => bad | | 5\n\
+        dump => 0 0 leaf 1 ; 1 leaf -2 ; 2 unit 0 1 1 1 depth 2 cells 1:0:0 2:4:1 | | 5\n";
+
+    // The answers are tools/paper.py's.
+    #[test]
+    fn answers_stand_beside_their_lines(rt: HostRuntime) -> Result<(), Fail> {
+        let alloc = rt.alloc();
+        let mut input = PLAN.as_bytes();
+        let mut out = Vec::new(alloc);
+        let work = Work { int: 3, byte: 4 };
+        play(alloc, &mut input, &mut out, work, true)?;
+        assert_eq!(rt; str::from_utf8(&out)?, BESIDE);
+        Ok(())
+    }
+
+    #[test]
+    fn long_lines_are_cut(rt: HostRuntime) -> Result<(), Fail> {
+        let alloc = rt.alloc();
+        for (len, kept) in [(65536, 65536), (65537, 65537), (70000, 65537)] {
+            let mut text = vec![in alloc; b'x'; len]?;
+            text.extend_from_slice(b"\ndump\n")?;
+            let mut input = text.as_slice();
+            let mut line = Vec::new(alloc);
+            assert!(rt; next_line(&mut input, &mut line));
+            assert_eq!(rt; line.len(), kept);
+            assert!(rt; next_line(&mut input, &mut line));
+            assert_eq!(rt; line.as_slice(), b"dump".as_slice());
+            assert!(rt; !next_line(&mut input, &mut line));
+        }
+        Ok(())
+    }
 }
