@@ -15,4 +15,4 @@ returns-in-Ok-clause-writes g c p ok =
 
 pub returns-in-Err-clause-writes : goal.returns-in-Err-clause-writes
 returns-in-Err-clause-writes g c p ok =
-    has_written_of_eq _ _ _ _ _ (rw (c.in-Err.is, c.number_of.ensures) (ap (λ (ds : List ℕ). decimal (number_of c.in-Err.why) ++ 32 ∷ ds) zero)) (c.write-in-Err.ensures.writes p ok)
+    has_written_of_eq _ _ _ _ _ (rw (c.in-Err.is, c.from.ensures) (ap (λ (ds : List ℕ). decimal (number_of c.in-Err.why) ++ 32 ∷ ds) zero)) (c.write-in-Err.ensures.writes p ok)
