@@ -9,11 +9,12 @@
 
 ghost use Rattle.std.specs.Prelude.{◌≡◌, true, ℕ, ◌/◌, ◌≤◌, length};
 ghost use Rattle.count.specs.Run.{Fit};
+ghost use Rattle.count.specs.Encoding.{FitFor};
 ghost use Rattle.bench_count.specs.Ready.{node_fit, nodes_fit, from};
 
 use clause::put;
-use count::define_unweighted_rec;
-use paper::{Node, Run, Want};
+use count::Encoder;
+use paper::{Node, Run, Tree, Want};
 use rows::{cells_ok, con_len, inputs_ok, node_at};
 use table::{fits_in, sum_is};
 
@@ -23,12 +24,6 @@ fn put_word(nodes: &mut [u32], at: usize, w: usize) {
         if w < 65536 {
             nodes[at] = w as u32;
         }
-    }
-}
-
-fn put_mark(marks: &mut [u8], at: usize) {
-    if at < marks.len() {
-        marks[at] = 0;
     }
 }
 
@@ -62,11 +57,9 @@ fn put_cells(nodes: &mut [u32], k: usize, first: usize, count: usize) {
 }
 
 fn put_leaves(nodes: &mut [u32], inputs: &mut [i32]) {
-    let mut k = 0;
-    while k < 4096 {
+    for k in 0..4096 {
         put_leaf(nodes, k);
         put(inputs, k, (k + 1) as i32);
-        k += 1;
     }
 }
 
@@ -86,15 +79,13 @@ fn both_len(nodes: &[u32], left: usize) -> usize {
 }
 
 fn put_units(nodes: &mut [u32]) {
-    let mut k = 4096;
     let mut first = 0;
-    while k < 8191 {
+    for k in 4096..8191 {
         let left = (k - 4096) * 2;
         let count = both_len(nodes, left);
         put_unit(nodes, k, left);
         put_cells(nodes, k, first, count);
         first = more(first, count);
-        k += 1;
     }
 }
 
@@ -113,57 +104,46 @@ fn nodes_fit(nodes: &[u32], ni: usize, nc: usize) -> bool
 {
     let count = nodes.len() / 8;
     let mut ok = true;
-    let mut k = 0;
-    while k < count {
+    for k in 0..count {
         let n = node_at(nodes, k);
         let l = node_at(nodes, n.left);
         let r = node_at(nodes, n.right);
         ok = ok & node_fit(n, l, r, ni, nc, k);
-        k += 1;
     }
     ok
 }
 
 // The rows are what the recursion requires.
-fn ready(nodes: &[u32], inputs: &[i32], lits: &[i32], marks: &[u8]) -> bool
-    ensures { result ≡ true → Fit nodes.now inputs.now lits.now marks.now (from 4097 0) }
+fn ready(tree: &Tree, lits: &[i32], marks: &[u8]) -> bool
+    ensures { result ≡ true → Fit tree.now.nodes.now tree.now.inputs.now lits.now marks.now (from 4097 0) }
 {
     if lits.len() != marks.len() {
         return false;
     }
-    let a = nodes_fit(nodes, inputs.len(), lits.len());
-    let b = inputs_ok(inputs, inputs.len(), 2147483648);
+    let a = nodes_fit(tree.nodes, tree.inputs.len(), lits.len());
+    let b = inputs_ok(tree.inputs, tree.inputs.len(), 2147483648);
     let c = cells_ok(lits, marks, lits.len(), 1, 2147483648);
     a & b & c
 }
 
 // A demand. Where variables could run out, or the output is not there, nothing is done.
-fn demand_one(
-    nodes: &[u32],
-    inputs: &[i32],
-    lits: &mut [i32],
-    marks: &mut [u8],
-    row: &mut [i32],
-    i: usize,
-    want: Want,
-    run: Run,
-) -> Run
-    requires { Fit nodes.now inputs.now lits.old marks.old run }
-    ensures { Fit nodes.now inputs.now lits.new marks.new result }
+fn demand_one(tree: &Tree, encoder: &mut Encoder, i: usize, want: Want)
+    requires { FitFor tree.now encoder.old }
+    ensures { FitFor tree.now encoder.new }
 {
-    if 1000000 < run.next {
-        return run;
+    if 1000000 < encoder.run.next {
+        return;
     }
-    if 1000000 < lits.len() {
-        return run;
+    if 1000000 < encoder.lits.len() {
+        return;
     }
-    if nodes.len() / 8 <= 8190 {
-        return run;
+    if tree.nodes.len() / 8 <= 8190 {
+        return;
     }
-    if con_len(node_at(nodes, 8190)) <= i {
-        return run;
+    if con_len(node_at(tree.nodes, 8190)) <= i {
+        return;
     }
-    define_unweighted_rec(nodes, inputs, lits, marks, row, 8190, i, want, run)
+    encoder.define_unweighted_rec(tree, 8190, i, want);
 }
 
 fn more(words: usize, n: usize) -> usize {
@@ -190,42 +170,27 @@ fn place(words: usize, dry: bool) -> usize
     if words <= 1000000 { words } else { 0 }
 }
 
-// The demands below count, and the words that they take; 1 where the rows are not fit.
-fn demand_all(
-    nodes: &[u32],
-    inputs: &[i32],
-    lits: &mut [i32],
-    marks: &mut [u8],
-    row: &mut [i32],
-    want: Want,
-    dry: bool,
-    count: usize,
-) -> usize {
-    if !ready(nodes, inputs, lits, marks) {
+// The demands below count, from cleared rows, and the words that they take; 1 where the rows are not fit.
+fn demand_all(tree: &Tree, encoder: &mut Encoder, want: Want, dry: bool, count: usize) -> usize {
+    encoder.lits.fill(0);
+    encoder.marks.fill(0);
+    encoder.run = Run {
+        next: 4097,
+        words: place(0, dry),
+    };
+    let lits = &mut *encoder.lits;
+    let marks = &mut *encoder.marks;
+    if !ready(tree, lits, marks) {
         return 1;
     }
     let mut words = 0;
-    let mut next = 4097;
-    let mut at = place(0, dry);
-    let mut i = 0;
-    while i < count {
-        let run = Run { next, words: at };
-        let r = demand_one(nodes, inputs, lits, marks, row, i, want, run);
-        next = r.next;
-        words = more(words, less(r.words, at));
-        at = place(r.words, dry);
-        i += 1;
+    for i in 0..count {
+        let at = encoder.run.words;
+        demand_one(tree, encoder, i, want);
+        words = more(words, less(encoder.run.words, at));
+        encoder.run.words = place(encoder.run.words, dry);
     }
     words
-}
-
-fn clear(lits: &mut [i32], marks: &mut [u8]) {
-    let mut k = 0;
-    while k < 49152 {
-        put(lits, k, 0);
-        put_mark(marks, k);
-        k += 1;
-    }
 }
 
 fn say(words: usize) {
@@ -238,24 +203,11 @@ fn build(nodes: &mut [u32; 65528], inputs: &mut [i32; 4096]) {
     put_units(nodes);
 }
 
-// The demands n times, each time from cleared rows.
-fn demands(
-    nodes: &[u32; 65528],
-    inputs: &[i32; 4096],
-    lits: &mut [i32; 49152],
-    marks: &mut [u8; 49152],
-    row: &mut [i32; 1200000],
-    want: Want,
-    dry: bool,
-    count: usize,
-    n: usize,
-) {
+// The demands of the outputs below count, n times.
+fn demands(tree: &Tree, encoder: &mut Encoder, want: Want, dry: bool, count: usize, n: usize) {
     let mut words = 0;
-    let mut i = 0;
-    while i < n {
-        clear(lits, marks);
-        words = demand_all(nodes, inputs, lits, marks, row, want, dry, count);
-        i += 1;
+    for _ in 0..n {
+        words = demand_all(tree, encoder, want, dry, count);
     }
     say(words);
 }
@@ -269,7 +221,23 @@ fn times(digit: u8) -> usize {
     }
 }
 
-fn part(
+fn part(tree: &Tree, encoder: &mut Encoder, which: u8, n: usize) {
+    match which {
+        b'i' => demands(tree, encoder, Want::IF, false, 64, n),
+        b'I' => demands(tree, encoder, Want::IF, true, 64, n),
+        b'b' => demands(tree, encoder, Want::BOTH, false, 64, n),
+        b'B' => demands(tree, encoder, Want::BOTH, true, 64, n),
+        b'r' => demands(tree, encoder, Want::IF, false, 0, n),
+        _ => {
+            demands(tree, encoder, Want::IF, false, 64, n);
+            demands(tree, encoder, Want::IF, true, 64, n);
+            demands(tree, encoder, Want::BOTH, false, 64, n);
+            demands(tree, encoder, Want::BOTH, true, 64, n)
+        }
+    }
+}
+
+fn over(
     nodes: &[u32; 65528],
     inputs: &[i32; 4096],
     lits: &mut [i32; 49152],
@@ -278,24 +246,19 @@ fn part(
     which: u8,
     n: usize,
 ) {
-    let fi = Want {
-        fi: true,
-        fo: false,
+    let tree = Tree {
+        nodes,
+        inputs,
+        keys: &[],
     };
-    let both = Want { fi: true, fo: true };
-    match which {
-        b'i' => demands(nodes, inputs, lits, marks, row, fi, false, 64, n),
-        b'I' => demands(nodes, inputs, lits, marks, row, fi, true, 64, n),
-        b'b' => demands(nodes, inputs, lits, marks, row, both, false, 64, n),
-        b'B' => demands(nodes, inputs, lits, marks, row, both, true, 64, n),
-        b'r' => demands(nodes, inputs, lits, marks, row, fi, false, 0, n),
-        _ => {
-            demands(nodes, inputs, lits, marks, row, fi, false, 64, n);
-            demands(nodes, inputs, lits, marks, row, fi, true, 64, n);
-            demands(nodes, inputs, lits, marks, row, both, false, 64, n);
-            demands(nodes, inputs, lits, marks, row, both, true, 64, n)
-        }
-    }
+    let run = Run { next: 0, words: 0 };
+    let mut encoder = Encoder {
+        lits,
+        marks,
+        row,
+        run,
+    };
+    part(&tree, &mut encoder, which, n);
 }
 
 fn main() {
@@ -309,5 +272,5 @@ fn main() {
     let which = asked[0];
     let n = times(asked[1]);
     build(&mut nodes, &mut inputs);
-    part(&nodes, &inputs, &mut lits, &mut marks, &mut row, which, n);
+    over(&nodes, &inputs, &mut lits, &mut marks, &mut row, which, n);
 }

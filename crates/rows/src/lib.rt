@@ -53,7 +53,8 @@ fn base_of(nodes: &[u32], id: usize) -> usize
     }
 }
 
-pub fn node_at(nodes: &[u32], id: usize) -> Node
+// A node whose words are not all in the row.
+fn node_past(nodes: &[u32], id: usize) -> Node
     ensures { result ≡ node_at nodes.now id }
 {
     let base = base_of(nodes, id);
@@ -66,6 +67,25 @@ pub fn node_at(nodes: &[u32], id: usize) -> Node
         first: word_from(nodes, base, 5),
         count: word_from(nodes, base, 6),
         depth: word_from(nodes, base, 7),
+    }
+}
+
+pub fn node_at(nodes: &[u32], id: usize) -> Node
+    ensures { result ≡ node_at nodes.now id }
+{
+    if nodes.len() / NODE_WORDS <= id {
+        return node_past(nodes, id);
+    }
+    let at = id * NODE_WORDS;
+    Node {
+        kind: nodes[at] as usize,
+        left: nodes[at + 1] as usize,
+        lmul: nodes[at + 2] as usize,
+        right: nodes[at + 3] as usize,
+        rmul: nodes[at + 4] as usize,
+        first: nodes[at + 5] as usize,
+        count: nodes[at + 6] as usize,
+        depth: nodes[at + 7] as usize,
     }
 }
 

@@ -39,55 +39,55 @@ pub returns-in_default-clause-value : goal.returns-in_default-clause-value
 returns-in_default-clause-value c = let t = sym c.table_ok.ensures ∙ c.if-not-table_ok.false in
     let w = sym c.work_ok.ensures ∙ c.if-not-work_ok.false in fails_output c.args.nodes.now c.args.inputs.now c.args.keys.now c.args.lits.now c.args.marks.now (length c.args.clauses.now) (length c.args.ints.now) (length c.args.bytes.now) c.args.c c.args.id c.args.v t w (omega (arith, c.if-c-id.false)) (sym (c.output_of.ensures ∙ ap (λ (n : Node). output_of (cells_used c.args.keys.now c.args.c) n c.args.v) c.node_at-n.ensures) ∙ c.in_default.is)
 
+pub slice_bounds-tree-end : goal.slice_bounds-tree-end
+slice_bounds-tree-end c = let t = sym c.table_ok.ensures ∙ c.if-not-table_ok.false in
+    let f = table_facts _ _ _ _ _ _ _ _ t in
+    sym (used_length _ _ (words_fit f.counters))
+
+pub slice_bounds-tree-end-2 : goal.slice_bounds-tree-end-2
+slice_bounds-tree-end-2 c = let t = sym c.table_ok.ensures ∙ c.if-not-table_ok.false in
+    let f = table_facts _ _ _ _ _ _ _ _ t in
+    sym (used_length _ _ f.input_row)
+
+pub slice_bounds-tree-end-3 : goal.slice_bounds-tree-end-3
+slice_bounds-tree-end-3 c = let t = sym c.table_ok.ensures ∙ c.if-not-table_ok.false in
+    let f = table_facts _ _ _ _ _ _ _ _ t in
+    sym (used_length _ _ f.counters.cell_row)
+
 pub slice_bounds-copy_and_meet-end : goal.slice_bounds-copy_and_meet-end
 slice_bounds-copy_and_meet-end c = let t = sym c.table_ok.ensures ∙ c.if-not-table_ok.false in
     let f = table_facts _ _ _ _ _ _ _ _ t in
-    sym (used_length _ _ (words_fit f.counters))
+    f.lit_row
 
 pub slice_bounds-copy_and_meet-end-2 : goal.slice_bounds-copy_and_meet-end-2
 slice_bounds-copy_and_meet-end-2 c = let t = sym c.table_ok.ensures ∙ c.if-not-table_ok.false in
     let f = table_facts _ _ _ _ _ _ _ _ t in
-    sym (used_length _ _ f.input_row)
+    sym (used_length _ _ f.lit_row)
 
 pub slice_bounds-copy_and_meet-end-3 : goal.slice_bounds-copy_and_meet-end-3
 slice_bounds-copy_and_meet-end-3 c = let t = sym c.table_ok.ensures ∙ c.if-not-table_ok.false in
     let f = table_facts _ _ _ _ _ _ _ _ t in
-    sym (used_length _ _ f.counters.cell_row)
+    f.mark_row
 
 pub slice_bounds-copy_and_meet-end-4 : goal.slice_bounds-copy_and_meet-end-4
 slice_bounds-copy_and_meet-end-4 c = let t = sym c.table_ok.ensures ∙ c.if-not-table_ok.false in
     let f = table_facts _ _ _ _ _ _ _ _ t in
-    f.lit_row
+    sym (used_length _ _ f.mark_row)
 
 pub slice_bounds-copy_and_meet-end-5 : goal.slice_bounds-copy_and_meet-end-5
-slice_bounds-copy_and_meet-end-5 c = let t = sym c.table_ok.ensures ∙ c.if-not-table_ok.false in
-    let f = table_facts _ _ _ _ _ _ _ _ t in
-    sym (used_length _ _ f.lit_row)
+slice_bounds-copy_and_meet-end-5 c = let w = sym c.work_ok.ensures ∙ c.if-not-work_ok.false in
+    (work_cells _ _ _ w).0
 
 pub slice_bounds-copy_and_meet-end-6 : goal.slice_bounds-copy_and_meet-end-6
-slice_bounds-copy_and_meet-end-6 c = let t = sym c.table_ok.ensures ∙ c.if-not-table_ok.false in
-    let f = table_facts _ _ _ _ _ _ _ _ t in
-    f.mark_row
+slice_bounds-copy_and_meet-end-6 c = let w = sym c.work_ok.ensures ∙ c.if-not-work_ok.false in
+    sym (used_length _ _ (work_cells _ _ _ w).0)
 
 pub slice_bounds-copy_and_meet-end-7 : goal.slice_bounds-copy_and_meet-end-7
-slice_bounds-copy_and_meet-end-7 c = let t = sym c.table_ok.ensures ∙ c.if-not-table_ok.false in
-    let f = table_facts _ _ _ _ _ _ _ _ t in
-    sym (used_length _ _ f.mark_row)
+slice_bounds-copy_and_meet-end-7 c = let w = sym c.work_ok.ensures ∙ c.if-not-work_ok.false in
+    (work_cells _ _ _ w).1
 
 pub slice_bounds-copy_and_meet-end-8 : goal.slice_bounds-copy_and_meet-end-8
 slice_bounds-copy_and_meet-end-8 c = let w = sym c.work_ok.ensures ∙ c.if-not-work_ok.false in
-    (work_cells _ _ _ w).0
-
-pub slice_bounds-copy_and_meet-end-9 : goal.slice_bounds-copy_and_meet-end-9
-slice_bounds-copy_and_meet-end-9 c = let w = sym c.work_ok.ensures ∙ c.if-not-work_ok.false in
-    sym (used_length _ _ (work_cells _ _ _ w).0)
-
-pub slice_bounds-copy_and_meet-end-10 : goal.slice_bounds-copy_and_meet-end-10
-slice_bounds-copy_and_meet-end-10 c = let w = sym c.work_ok.ensures ∙ c.if-not-work_ok.false in
-    (work_cells _ _ _ w).1
-
-pub slice_bounds-copy_and_meet-end-11 : goal.slice_bounds-copy_and_meet-end-11
-slice_bounds-copy_and_meet-end-11 c = let w = sym c.work_ok.ensures ∙ c.if-not-work_ok.false in
     sym (used_length _ _ (work_cells _ _ _ w).1)
 
 pub copy_and_meet-requires-clause-ready : goal.copy_and_meet-requires-clause-ready
