@@ -17,7 +17,7 @@ use Rattle.paper.specs.Below.{side}
 use Rattle.paper.specs.Rows.{node_at, is_neg}
 use Rattle.paper.specs.Upkeep.{byte_at, truth_of, worth_of, value_of}
 use Rattle.paper.specs.declared.Node.{Node}
-use Rattle.worth.specs.Value.{Ready, Sound}
+use Rattle.worth.specs.Value.{Sound}
 
 pub value_step : (ns : List ℕ) (ins : List ℤ) (a : List ℕ) (f i : ℕ) → i < f
     → value_of f ns ins a i ≡ worth_of (node_at ns i) ins a (value_of (f - 1) ns ins a (node_at ns i).left) (value_of (f - 1) ns ins a (node_at ns i).right)
@@ -62,10 +62,6 @@ pub neg_is : (z : ℤ) (r : Bool) → SFits w32 z → r ≡ is_neg (to_z w32 (of
 neg_is z r f e = e ∙ ap is_neg (to_z-of_z {w = w32} {z = z} f)
 
 -- ---- the loop
-
-pub ready_more : (ns : List ℕ) (k limit i : ℕ) → Ready ns k i i → i ≤ limit → Ready ns k limit i
-ready_more ns k limit i r h =
-    record { leaf = r.leaf; left = λ p q. let g = r.left p q in omega (arith, g); right = λ p q. let g = r.right p q in omega (arith, g); lmul = r.lmul; rmul = r.rmul }
 
 -- the rows's first i places have the values of the nodes before i
 abbrev pub Held : List ℕ → List ℤ → List ℕ → List ℤ → ℕ → Type 0
