@@ -1,6 +1,6 @@
 -- What the code computes, on the way to a general node's keys: the least of L, R and the sums that is at least a.
 use Rattle.std.specs.Prelude.{ℕ, zero, suc, ◌+◌, ◌≤◌, ◌<◌, List, [], ◌∷◌, cond, ◌&&◌, ◌≡◌, get_or, leb, ltb}
-use Rattle.paper.specs.Rows.{con_len, con_val}
+use Rattle.paper.specs.Rows.{con_len, con_val, value_at}
 use Rattle.paper.specs.declared.Node.{Node}
 
 -- no number at least a: above every sum of two products of a multiplier and a word
@@ -26,6 +26,10 @@ first_from a (x ∷ xs) = cond (leb a x) x (first_from a xs)
 -- the first n of f do not fall
 abbrev pub Mono : ℕ → (ℕ → ℕ) → Type 0
 Mono n f = (i k : ℕ) → i ≤ k → k < n → f i ≤ f k
+
+-- a node's values do not fall
+abbrev pub Ascends : List ℕ → Node → Type 0
+Ascends keys n = Mono (con_len n) (λ k. value_at keys n k)
 
 -- the last of the first n of f, or 0: where they do not fall, the largest
 unfoldable pub last_of : ℕ → (ℕ → ℕ) → ℕ

@@ -5,10 +5,10 @@
 ghost use Rattle.std.specs.Prelude.{◌≡◌, true, cond, ℕ, ◌+◌, ◌*◌, ◌<◌, ◌≤◌, ◌^◌, min, length, get_or};
 ghost use Rattle.std.proofs.Math.Seq.{paste};
 ghost use Rattle.paper.specs.Limits.{mul_limit};
-ghost use Rattle.paper.specs.Rows.{con_len, con_val, value_at};
+ghost use Rattle.paper.specs.Rows.{con_len, con_val};
 ghost use Rattle.paper.specs.Keys.{node_keys, row_equals};
 ghost use Rattle.facts.specs.Facts.{Under};
-ghost use Rattle.keys.specs.Least.{pick_of, least_all, first_from, Mono, Cut, picked_at, largest_of};
+ghost use Rattle.keys.specs.Least.{pick_of, least_all, first_from, Ascends, Cut, picked_at, largest_of};
 
 use paper::{KEY_LIMIT, Node};
 
@@ -32,14 +32,14 @@ pub struct Child {
 
 impl Child {
     // How many values there are.
-    pub fn len(self) -> usize
+    fn len(self) -> usize
         ensures { result ≡ con_len self.node }
     {
         rows::con_len(self.node)
     }
 
     // Value j times the multiplier.
-    pub fn at(self, keys: &[u32], j: usize) -> usize
+    fn at(self, keys: &[u32], j: usize) -> usize
         ensures { (result ≡ con_val keys.now self.node self.mul j) × (result < 2 ^ 48) }
     {
         self.mul * rows::value_at(keys, self.node, j)
@@ -70,7 +70,7 @@ impl Child {
 
     // Whether the values do not fall.
     fn ascending(self, keys: &[u32]) -> bool
-        ensures { result ≡ true → Mono (con_len self.node) (λ k. value_at keys.now self.node k) }
+        ensures { result ≡ true → Ascends keys.now self.node }
     {
         let mut last = 0;
         for i in 0..self.len() {
@@ -85,7 +85,7 @@ impl Child {
 
     // Goes back from j to where x + r begins to be at least a, by steps that double and then by halves.
     fn back(self, keys: &[u32], x: usize, a: usize, j: usize) -> usize
-        requires { (x < 2 ^ 48) × (j ≤ con_len self.node) × (Mono (con_len self.node) (λ k. value_at keys.now self.node k)) }
+        requires { (x < 2 ^ 48) × (j ≤ con_len self.node) × Ascends keys.now self.node }
         ensures { Cut (con_val keys.now self.node self.mul) x a j result result }
     {
         let mut lo = 0;
@@ -171,7 +171,7 @@ impl Children {
     // The same where the values do not fall: from the first row that reaches a on, j only goes back, so at most |L| + |R| steps;
     // and a itself, which cannot be bettered, ends the search.
     fn first_key_sorted(self, keys: &[u32], a: usize) -> usize
-        requires { (Mono (con_len self.left.node) (λ k. value_at keys.now self.left.node k)) × (Mono (con_len self.right.node) (λ k. value_at keys.now self.right.node k)) }
+        requires { Ascends keys.now self.left.node × Ascends keys.now self.right.node }
         ensures { result ≡ first_from a (node_keys keys.now self.left.node self.left.mul self.right.node self.right.mul) }
     {
         let n = self.left.len();
@@ -192,14 +192,14 @@ impl Children {
 
     // Whether neither child's values fall, as in a checked table. It is asked once a node, and the questions then go by the stairs.
     fn rising(self, keys: &[u32]) -> bool
-        ensures { result ≡ true → (Mono (con_len self.left.node) (λ k. value_at keys.now self.left.node k)) × (Mono (con_len self.right.node) (λ k. value_at keys.now self.right.node k)) }
+        ensures { result ≡ true → Ascends keys.now self.left.node × Ascends keys.now self.right.node }
     {
         self.left.ascending(keys) && self.right.ascending(keys)
     }
 
     // The first key at least a, or NONE: the least number at least a among L, R and all sums.
     fn next_key(self, keys: &[u32], up: bool, a: usize) -> usize
-        requires { up ≡ true → (Mono (con_len self.left.node) (λ k. value_at keys.now self.left.node k)) × (Mono (con_len self.right.node) (λ k. value_at keys.now self.right.node k)) }
+        requires { up ≡ true → Ascends keys.now self.left.node × Ascends keys.now self.right.node }
         ensures { result ≡ first_from a (node_keys keys.now self.left.node self.left.mul self.right.node self.right.mul) }
     {
         if up {

@@ -7,7 +7,7 @@ ghost use Rattle.paper.specs.Rows.{node_at};
 ghost use Rattle.paper.specs.Upkeep.{byte_at, truth_of, worth_of, value_of, assigned_ok};
 ghost use Rattle.worth.specs.Value.{Ready, Sound};
 
-use paper::Node;
+use paper::{Kind, Node};
 
 // The byte of variable v.
 fn byte_at(assign: &[u8], v: usize) -> usize
@@ -55,15 +55,11 @@ fn node_value(nodes: &[u32], inputs: &[i32], assign: &[u8], work: &[i32], i: usi
         (nat_abs (get_or work.now (node_at nodes.now i).left (pos 0))) (nat_abs (get_or work.now (node_at nodes.now i).right (pos 0))) }
 {
     let n = rows::node_at(nodes, i);
-    let k = n.kind;
-    if k == 0 {
-        let at = n.first;
-        return truth(assign, inputs[at]);
+    match n.kind_of() {
+        Kind::Leaf => truth(assign, inputs[n.first]),
+        Kind::Dummy => 0,
+        _ => from_children(work, n),
     }
-    if k == 3 {
-        return 0;
-    }
-    from_children(work, n)
 }
 
 // The values of the nodes 0 to id, each after its children; the answer is the last.
