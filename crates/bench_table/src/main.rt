@@ -6,243 +6,59 @@
 //   e, f: the general node of a, of b, added
 #![tactic(auto)]
 
-ghost use Rattle.std.specs.Prelude.{◌≤◌};
+use paper::{Counters, Pair, Refusal};
+use std::io;
+use std::io::Read;
 
-use paper::{Added, Counters, Pair, Refusal};
+// Why a run ends before its line is written. A refusal stands here as document 01's number of it.
+#[derive(Debug, Drop)]
+enum Failure {
+    Refused(u32),
+    Output(io::Error),
+}
 
-fn after(a: Result<Added, Refusal>, c: Counters) -> Counters {
-    match a {
-        Ok(done) => done.counters,
-        Err(_) => c,
+impl From<Refusal> for Failure {
+    fn from(why: Refusal) -> Failure {
+        Failure::Refused(why.into())
     }
 }
 
-fn start() -> Counters {
-    let b = grow::fresh(2, 100);
-    match b {
-        Ok(c) => c,
-        Err(_) => Counters {
-            first: 0,
-            next: 0,
-            last: 0,
-            nodes: 0,
-            inputs: 0,
-            cells: 0,
-            words: 0,
-        },
+impl From<io::Error> for Failure {
+    fn from(error: io::Error) -> Failure {
+        Failure::Output(error)
     }
 }
 
-fn leaf(
-    nodes: &mut [u32; 512],
-    inputs: &mut [i32; 8],
-    keys: &[u32; 16384],
-    lits: &[i32; 16384],
-    marks: &[u8; 16384],
-) -> Counters {
-    let c = start();
-    let a = grow::leaf(nodes, inputs, keys, lits, marks, 0, c, 1);
-    after(a, c)
+// Towers of general nodes, as the multipliers of the leaf on the right: the topmost of the first two has 68 and 136 values.
+const TO_68: &[usize] = &[2, 4, 8, 16, 32, 5];
+
+const TO_136: &[usize] = &[2, 4, 8, 16, 32, 64, 9];
+
+const TO_2047: &[usize] = &[2, 4, 8, 16, 32, 64, 128, 256, 512, 1024];
+
+const TO_4095: &[usize] = &[2, 4, 8, 16, 32, 64, 128, 256, 512, 1024, 2048];
+
+// What is timed: checks of units, of a tower with a large node above it, of a tower; or the large node, added.
+#[derive(Clone, Copy)]
+enum Case {
+    Units,
+    Large(&'static [usize]),
+    Slender(&'static [usize]),
+    Added(&'static [usize]),
 }
 
-fn inner(
-    nodes: &mut [u32; 512],
-    inputs: &[i32; 8],
-    keys: &mut [u32; 16384],
-    lits: &mut [i32; 16384],
-    marks: &mut [u8; 16384],
-    c: Counters,
-    left: usize,
-    lmul: usize,
-    right: usize,
-    rmul: usize,
-) -> Counters {
-    let a = join::inner(
-        nodes,
-        inputs,
-        keys,
-        lits,
-        marks,
-        0,
-        c,
-        Pair {
-            left,
-            lmul,
-            right,
-            rmul,
-        },
-    );
-    after(a, c)
-}
-
-fn if_up(up: bool, i: usize) -> usize {
-    if up { i } else { 0 }
-}
-
-fn doubled(up: bool, m: usize) -> usize {
-    if m < 65536 {
-        if up { m + m } else { m }
-    } else {
-        m
+impl From<u8> for Case {
+    fn from(letter: u8) -> Case {
+        match letter {
+            b'a' => Case::Large(TO_68),
+            b'b' => Case::Large(TO_136),
+            b'c' => Case::Slender(TO_2047),
+            b'd' => Case::Slender(TO_4095),
+            b'e' => Case::Added(TO_68),
+            b'f' => Case::Added(TO_136),
+            _ => Case::Units,
+        }
     }
-}
-
-// For each i a node over node i and, up: node i itself, a unit; else: the leaf, times 2, 4, 8, ..
-fn tower(
-    nodes: &mut [u32; 512],
-    inputs: &[i32; 8],
-    keys: &mut [u32; 16384],
-    lits: &mut [i32; 16384],
-    marks: &mut [u8; 16384],
-    c: Counters,
-    from: usize,
-    to: usize,
-    units: bool,
-) -> Counters {
-    let mut now = c;
-    let mut m = doubled(!units, 1);
-    let mut i = from;
-    while i < to {
-        let r = if_up(units, i);
-        now = inner(nodes, inputs, keys, lits, marks, now, i, 1, r, m);
-        m = doubled(!units, m);
-        i += 1;
-    }
-    now
-}
-
-fn other(i: usize) -> i32 {
-    if i % 2 == 0 { 7 } else { 8 }
-}
-
-fn one(b: bool) -> usize
-    ensures { result ≤ 1 }
-{
-    if b { 1 } else { 0 }
-}
-
-// How many of n checks pass. An entry past those in use is changed each time, so that no check is left out.
-fn checks(
-    nodes: &[u32; 512],
-    inputs: &mut [i32; 8],
-    keys: &[u32; 16384],
-    lits: &[i32; 16384],
-    marks: &[u8; 16384],
-    c: Counters,
-    n: usize,
-) -> usize {
-    let mut ok = 0;
-    let mut i = 0;
-    while i < n {
-        inputs[7] = other(i);
-        ok = ok + one(table::table_ok(nodes, inputs, keys, lits, marks, 0, c));
-        i += 1;
-    }
-    ok
-}
-
-// The same node added n times to the same table.
-fn inners(
-    nodes: &mut [u32; 512],
-    inputs: &[i32; 8],
-    keys: &mut [u32; 16384],
-    lits: &mut [i32; 16384],
-    marks: &mut [u8; 16384],
-    c: Counters,
-    right: usize,
-    n: usize,
-) -> Counters {
-    let mut now = c;
-    let mut i = 0;
-    while i < n {
-        now = inner(nodes, inputs, keys, lits, marks, c, 5, 1, right, 64);
-        i += 1;
-    }
-    now
-}
-
-fn say(ok: usize, c: Counters) {
-    io::write_all(1, b"passed: ");
-    io::print_decimal(1, ok as u64);
-    io::write_all(1, b", cells: ");
-    let cells = c.cells;
-    io::print_decimal(1, cells as u64);
-    io::write_all(1, b"\n");
-}
-
-fn unit_cells(
-    nodes: &mut [u32; 512],
-    inputs: &mut [i32; 8],
-    keys: &mut [u32; 16384],
-    lits: &mut [i32; 16384],
-    marks: &mut [u8; 16384],
-    n: usize,
-) {
-    let c = leaf(nodes, inputs, keys, lits, marks);
-    let c = inner(nodes, inputs, keys, lits, marks, c, 0, 1, 0, 1);
-    let c = tower(nodes, inputs, keys, lits, marks, c, 1, 13, true);
-    let c = inner(nodes, inputs, keys, lits, marks, c, 0, 1, 0, 1);
-    say(checks(nodes, inputs, keys, lits, marks, c, n), c);
-}
-
-// General nodes up to the node `top`, which has 68 values if it is node 6, and 136 else.
-fn below(
-    nodes: &mut [u32; 512],
-    inputs: &mut [i32; 8],
-    keys: &mut [u32; 16384],
-    lits: &mut [i32; 16384],
-    marks: &mut [u8; 16384],
-    top: usize,
-) -> Counters {
-    let c = leaf(nodes, inputs, keys, lits, marks);
-    if top == 6 {
-        let c = tower(nodes, inputs, keys, lits, marks, c, 0, 5, false);
-        return inner(nodes, inputs, keys, lits, marks, c, 5, 1, 0, 5);
-    }
-    let c = tower(nodes, inputs, keys, lits, marks, c, 0, 6, false);
-    inner(nodes, inputs, keys, lits, marks, c, 6, 1, 0, 9)
-}
-
-fn square(
-    nodes: &mut [u32; 512],
-    inputs: &mut [i32; 8],
-    keys: &mut [u32; 16384],
-    lits: &mut [i32; 16384],
-    marks: &mut [u8; 16384],
-    top: usize,
-    n: usize,
-) {
-    let c = below(nodes, inputs, keys, lits, marks, top);
-    let c = inner(nodes, inputs, keys, lits, marks, c, 5, 1, top, 64);
-    say(checks(nodes, inputs, keys, lits, marks, c, n), c);
-}
-
-fn slender(
-    nodes: &mut [u32; 512],
-    inputs: &mut [i32; 8],
-    keys: &mut [u32; 16384],
-    lits: &mut [i32; 16384],
-    marks: &mut [u8; 16384],
-    top: usize,
-    n: usize,
-) {
-    let c = leaf(nodes, inputs, keys, lits, marks);
-    let c = tower(nodes, inputs, keys, lits, marks, c, 0, top, false);
-    say(checks(nodes, inputs, keys, lits, marks, c, n), c);
-}
-
-fn added(
-    nodes: &mut [u32; 512],
-    inputs: &mut [i32; 8],
-    keys: &mut [u32; 16384],
-    lits: &mut [i32; 16384],
-    marks: &mut [u8; 16384],
-    top: usize,
-    n: usize,
-) {
-    let c = below(nodes, inputs, keys, lits, marks, top);
-    let c = inners(nodes, inputs, keys, lits, marks, c, top, n);
-    say(n, c);
 }
 
 fn times(digit: u8) -> usize {
@@ -255,43 +71,140 @@ fn times(digit: u8) -> usize {
     }
 }
 
-fn run(
-    nodes: &mut [u32; 512],
-    inputs: &mut [i32; 8],
-    keys: &mut [u32; 16384],
-    lits: &mut [i32; 16384],
-    marks: &mut [u8; 16384],
-    which: u8,
-    n: usize,
-) {
-    match which {
-        b'a' => square(nodes, inputs, keys, lits, marks, 6, n),
-        b'b' => square(nodes, inputs, keys, lits, marks, 7, n),
-        b'c' => slender(nodes, inputs, keys, lits, marks, 10, n),
-        b'd' => slender(nodes, inputs, keys, lits, marks, 11, n),
-        b'e' => added(nodes, inputs, keys, lits, marks, 6, n),
-        b'f' => added(nodes, inputs, keys, lits, marks, 7, n),
-        _ => unit_cells(nodes, inputs, keys, lits, marks, n),
+// The rows, with the counters.
+#[derive(Drop)]
+struct Table {
+    nodes: [u32; 512],
+    inputs: [i32; 8],
+    keys: [u32; 16384],
+    lits: [i32; 16384],
+    marks: [u8; 16384],
+    counters: Counters,
+}
+
+impl Table {
+    // Node 0 is a leaf.
+    fn new() -> Result<Table, Refusal> {
+        let mut table = Table {
+            nodes: [0; 512],
+            inputs: [0; 8],
+            keys: [0; 16384],
+            lits: [0; 16384],
+            marks: [0; 16384],
+            counters: grow::fresh(2, 100)?,
+        };
+        let leaf = grow::leaf(
+            &mut table.nodes,
+            &mut table.inputs,
+            &table.keys,
+            &table.lits,
+            &table.marks,
+            0,
+            table.counters,
+            1,
+        )?;
+        table.counters = leaf.counters;
+        Ok(table)
+    }
+
+    fn inner(&mut self, left: usize, right: usize, rmul: usize) -> Result<(), Refusal> {
+        let done = join::inner(
+            &mut self.nodes,
+            &self.inputs,
+            &mut self.keys,
+            &mut self.lits,
+            &mut self.marks,
+            0,
+            self.counters,
+            Pair {
+                left,
+                lmul: 1,
+                right,
+                rmul,
+            },
+        )?;
+        self.counters = done.counters;
+        Ok(())
+    }
+
+    fn is_ok(&self) -> bool {
+        table::table_ok(
+            &self.nodes,
+            &self.inputs,
+            &self.keys,
+            &self.lits,
+            &self.marks,
+            0,
+            self.counters,
+        )
+    }
+
+    // Units, each over the one before it twice, and one more over the leaf twice.
+    fn units(&mut self) -> Result<(), Refusal> {
+        for i in 0..13 {
+            self.inner(i, i, 1)?;
+        }
+        self.inner(0, 0, 1)
+    }
+
+    // General nodes, each over the one before it and the leaf.
+    fn tower(&mut self, muls: &[usize]) -> Result<(), Refusal> {
+        for (i, mul) in muls.iter().enumerate() {
+            self.inner(i, 0, *mul)?;
+        }
+        Ok(())
+    }
+
+    // The general node over node 5, which has 63 values, and the topmost of the tower.
+    fn large(&mut self, muls: &[usize]) -> Result<(), Refusal> {
+        self.inner(5, muls.len(), 64)
+    }
+
+    // How many of n checks pass. An entry past those in use is changed each time, so that no check is left out.
+    fn checks(&mut self, n: usize) -> usize {
+        let mut passed = 0;
+        for i in 0..n {
+            self.inputs[7] = if i % 2 == 0 { 7 } else { 8 };
+            passed += usize::from(self.is_ok());
+        }
+        passed
+    }
+
+    // The same node added n times to the same table.
+    fn adds(&mut self, muls: &[usize], n: usize) -> Result<usize, Refusal> {
+        let before = self.counters;
+        for _ in 0..n {
+            self.counters = before;
+            self.large(muls)?;
+        }
+        Ok(n)
+    }
+
+    // How many of n checks pass, or of n calls are done.
+    fn run(&mut self, case: Case, n: usize) -> Result<usize, Refusal> {
+        match case {
+            Case::Units => self.units()?,
+            Case::Large(muls) => {
+                self.tower(muls)?;
+                self.large(muls)?;
+            }
+            Case::Slender(muls) => self.tower(muls)?,
+            Case::Added(muls) => {
+                self.tower(muls)?;
+                return self.adds(muls, n);
+            }
+        }
+        Ok(self.checks(n))
     }
 }
 
-fn main() {
-    let mut nodes = [0u32; 512];
-    let mut inputs = [0i32; 8];
-    let mut keys = [0u32; 16384];
-    let mut lits = [0i32; 16384];
-    let mut marks = [0u8; 16384];
-    let mut asked = [0u8; 2];
-    io::read_full(0, &mut asked);
-    let which = asked[0];
-    let n = times(asked[1]);
-    run(
-        &mut nodes,
-        &mut inputs,
-        &mut keys,
-        &mut lits,
-        &mut marks,
-        which,
-        n,
-    );
+// A byte that is not there is no case, and once.
+fn main(rt: HostRuntime) -> Result<(), Failure> {
+    let mut asked = rt.reader().bytes().map_while(Result::ok);
+    let case = Case::from(asked.next().unwrap_or(0));
+    let n = times(asked.next().unwrap_or(0));
+    let mut table = Table::new()?;
+    let passed = table.run(case, n)?;
+    println!(rt; "passed: {passed}, cells: {}", table.counters.cells)?;
+    Ok(())
 }
