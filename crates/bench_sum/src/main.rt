@@ -11,14 +11,29 @@
 #![tactic(auto)]
 
 ghost use Rattle.std.specs.Prelude.{◌≤◌};
-ghost use Rattle.count.specs.Run.{Fit};
+ghost use Rattle.count.specs.Encoding.{FitFor};
 ghost use Rattle.sum.specs.Ways.{Generals};
 
-use paper::{Added, Counters, Demanded, Pair, Refusal, Run};
+use count::Encoder;
+use paper::{Added, Counters, Pair, Refusal, Run, Tree};
 use rows::{con_len, node_at};
 use sum::weigh;
 use sums::define_weighted;
 use table::table_ok;
+
+// The rows of a database, lent to all that follows. Where a call takes several of them, each is lent by a name of its own: that is
+// the form in which the check follows them.
+#[derive(Drop)]
+struct Rows<'a> {
+    nodes: &'a mut [u32],
+    inputs: &'a mut [i32],
+    keys: &'a mut [u32],
+    lits: &'a mut [i32],
+    marks: &'a mut [u8],
+    clauses: &'a mut [i32],
+    ints: &'a mut [i32],
+    bytes: &'a mut [u8],
+}
 
 // ---- the table
 
@@ -45,75 +60,50 @@ fn start() -> Counters {
     }
 }
 
-fn leaf(
-    nodes: &mut [u32; 128],
-    inputs: &mut [i32; 8],
-    keys: &[u32; 8192],
-    lits: &[i32; 8192],
-    marks: &[u8; 8192],
-) -> Counters {
-    let c = start();
-    let a = grow::leaf(nodes, inputs, keys, lits, marks, 0, c, 1);
-    after(a, c)
-}
+impl<'a> Rows<'a> {
+    fn leaf(&mut self) -> Counters {
+        let c = start();
+        let nodes = &mut *self.nodes;
+        let inputs = &mut *self.inputs;
+        let keys = &mut *self.keys;
+        let lits = &mut *self.lits;
+        let marks = &mut *self.marks;
+        let a = grow::leaf(nodes, inputs, keys, lits, marks, 0, c, 1);
+        after(a, c)
+    }
 
-fn inner(
-    nodes: &mut [u32; 128],
-    inputs: &[i32; 8],
-    keys: &mut [u32; 8192],
-    lits: &mut [i32; 8192],
-    marks: &mut [u8; 8192],
-    c: Counters,
-    left: usize,
-    right: usize,
-    rmul: usize,
-) -> Counters {
-    let a = join::inner(
-        nodes,
-        inputs,
-        keys,
-        lits,
-        marks,
-        0,
-        c,
-        Pair {
+    fn inner(&mut self, c: Counters, left: usize, right: usize, rmul: usize) -> Counters {
+        let pair = Pair {
             left,
             lmul: 1,
             right,
             rmul,
-        },
-    );
-    after(a, c)
-}
+        };
+        let nodes = &mut *self.nodes;
+        let inputs = &mut *self.inputs;
+        let keys = &mut *self.keys;
+        let lits = &mut *self.lits;
+        let marks = &mut *self.marks;
+        let a = join::inner(nodes, inputs, keys, lits, marks, 0, c, pair);
+        after(a, c)
+    }
 
-// Nodes 1 to 4, of the values 1 to 3, 7, 15, 31.
-fn low(
-    nodes: &mut [u32; 128],
-    inputs: &mut [i32; 8],
-    keys: &mut [u32; 8192],
-    lits: &mut [i32; 8192],
-    marks: &mut [u8; 8192],
-) -> Counters {
-    let c = leaf(nodes, inputs, keys, lits, marks);
-    let c = inner(nodes, inputs, keys, lits, marks, c, 0, 0, 2);
-    let c = inner(nodes, inputs, keys, lits, marks, c, 1, 0, 4);
-    let c = inner(nodes, inputs, keys, lits, marks, c, 2, 0, 8);
-    inner(nodes, inputs, keys, lits, marks, c, 3, 0, 16)
-}
+    // Nodes 1 to 4, of the values 1 to 3, 7, 15, 31.
+    fn low(&mut self) -> Counters {
+        let c = self.leaf();
+        let c = self.inner(c, 0, 0, 2);
+        let c = self.inner(c, 1, 0, 4);
+        let c = self.inner(c, 2, 0, 8);
+        self.inner(c, 3, 0, 16)
+    }
 
-// Nodes 5 and 6, of the values 1 to 1023; 7, over both of them; 8, over one and three values. These have 2,046 keys each.
-fn high(
-    nodes: &mut [u32; 128],
-    inputs: &[i32; 8],
-    keys: &mut [u32; 8192],
-    lits: &mut [i32; 8192],
-    marks: &mut [u8; 8192],
-    c: Counters,
-) -> Counters {
-    let c = inner(nodes, inputs, keys, lits, marks, c, 4, 4, 32);
-    let c = inner(nodes, inputs, keys, lits, marks, c, 4, 4, 32);
-    let c = inner(nodes, inputs, keys, lits, marks, c, 5, 6, 1);
-    inner(nodes, inputs, keys, lits, marks, c, 5, 1, 341)
+    // Nodes 5 and 6, of the values 1 to 1023; 7, over both of them; 8, over one and three values. These have 2,046 keys each.
+    fn high(&mut self, c: Counters) -> Counters {
+        let c = self.inner(c, 4, 4, 32);
+        let c = self.inner(c, 4, 4, 32);
+        let c = self.inner(c, 5, 6, 1);
+        self.inner(c, 5, 1, 341)
+    }
 }
 
 // ---- the public call
@@ -123,15 +113,7 @@ fn less(words: usize, n: usize) -> usize {
 }
 
 fn with_words(c: Counters, words: usize) -> Counters {
-    Counters {
-        first: c.first,
-        next: c.next,
-        last: c.last,
-        nodes: c.nodes,
-        inputs: c.inputs,
-        cells: c.cells,
-        words,
-    }
+    Counters { words, ..c }
 }
 
 fn put_mark(marks: &mut [u8], at: usize, m: u8) {
@@ -140,155 +122,92 @@ fn put_mark(marks: &mut [u8], at: usize, m: u8) {
     }
 }
 
-fn clear(marks: &mut [u8]) {
-    let mut k = 0;
-    while k < marks.len() {
-        put_mark(marks, k, 0);
-        k += 1;
-    }
-}
-
 // The mark of value v, in the cell at, taken back; of 1024 all marks.
 fn unmark(marks: &mut [u8], at: usize, v: usize) {
     if v == 1024 {
-        clear(marks);
+        marks.fill(0);
     } else {
         put_mark(marks, at, 0);
     }
 }
 
-// The cell of output v, where the keys are 1, 2, ..
-fn cell(nodes: &[u32; 128], id: usize, v: usize) -> usize {
-    let n = node_at(nodes, id);
-    if n.first < 65536 {
-        if v < 65536 {
-            return less(n.first + v, 1);
+impl<'a> Rows<'a> {
+    // The cell of output v, where the keys are 1, 2, ..
+    fn cell(&self, id: usize, v: usize) -> usize {
+        let n = node_at(self.nodes, id);
+        if n.first < 65536 {
+            if v < 65536 {
+                return less(n.first + v, 1);
+            }
+        }
+        0
+    }
+
+    fn call(&mut self, c: Counters, id: usize, v: usize) -> Counters {
+        let nodes = &mut *self.nodes;
+        let inputs = &mut *self.inputs;
+        let keys = &mut *self.keys;
+        let lits = &mut *self.lits;
+        let marks = &mut *self.marks;
+        let clauses = &mut *self.clauses;
+        let ints = &mut *self.ints;
+        let bytes = &mut *self.bytes;
+        let r = define_weighted(
+            nodes, inputs, keys, lits, marks, clauses, ints, bytes, c, id, v,
+        );
+        match r {
+            Ok(done) => done.counters,
+            Err(_) => c,
         }
     }
-    0
-}
 
-fn call(
-    nodes: &[u32; 128],
-    inputs: &[i32; 8],
-    keys: &[u32; 8192],
-    lits: &mut [i32; 8192],
-    marks: &mut [u8; 8192],
-    clauses: &mut [i32; 16384],
-    ints: &mut [i32; 8192],
-    bytes: &mut [u8; 8192],
-    c: Counters,
-    id: usize,
-    v: usize,
-) -> Counters {
-    let r = define_weighted(
-        nodes, inputs, keys, lits, marks, clauses, ints, bytes, c, id, v,
-    );
-    match r {
-        Ok(done) => done.counters,
-        Err(_) => c,
+    // The same demand n times, its mark and its words taken back before each.
+    fn calls(&mut self, c: Counters, id: usize, v: usize, n: usize) -> Counters {
+        let at = self.cell(id, v);
+        let mut now = c;
+        for _ in 0..n {
+            unmark(self.marks, at, v);
+            now = self.call(with_words(now, c.words), id, v);
+        }
+        now
     }
-}
-
-// The same demand n times, its mark and its words taken back before each.
-fn calls(
-    nodes: &[u32; 128],
-    inputs: &[i32; 8],
-    keys: &[u32; 8192],
-    lits: &mut [i32; 8192],
-    marks: &mut [u8; 8192],
-    clauses: &mut [i32; 16384],
-    ints: &mut [i32; 8192],
-    bytes: &mut [u8; 8192],
-    c: Counters,
-    id: usize,
-    v: usize,
-    n: usize,
-) -> Counters {
-    let at = cell(nodes, id, v);
-    let mut now = c;
-    let mut i = 0;
-    while i < n {
-        unmark(marks, at, v);
-        let from = with_words(now, c.words);
-        now = call(
-            nodes, inputs, keys, lits, marks, clauses, ints, bytes, from, id, v,
-        );
-        i += 1;
-    }
-    now
 }
 
 // ---- its recursion
 
 // The output at place y of node id. Where variables could run out, or the output is not there, nothing is done.
-fn weigh_one(
-    nodes: &[u32],
-    inputs: &[i32],
-    keys: &[u32],
-    lits: &mut [i32],
-    marks: &mut [u8],
-    row: &mut [i32],
-    id: usize,
-    y: usize,
-    run: Run,
-) -> Run
-    requires fit { Fit nodes.now inputs.now lits.old marks.old run }
-    requires generals { Generals nodes.now keys.now }
-    ensures { Fit nodes.now inputs.now lits.new marks.new result }
+fn weigh_one(tree: &Tree, encoder: &mut Encoder, id: usize, y: usize)
+    requires fit { FitFor tree.now encoder.old }
+    requires generals { Generals tree.now.nodes.now tree.now.keys.now }
+    ensures { FitFor tree.now encoder.new }
 {
-    if 1000000 < run.next {
-        return run;
+    if 1000000 < encoder.run.next {
+        return;
     }
-    if 1000000 < lits.len() {
-        return run;
+    if 1000000 < encoder.lits.len() {
+        return;
     }
-    if nodes.len() / 8 <= id {
-        return run;
+    if tree.nodes.len() / 8 <= id {
+        return;
     }
-    if con_len(node_at(nodes, id)) < y {
-        return run;
+    if con_len(node_at(tree.nodes, id)) < y {
+        return;
     }
-    weigh(nodes, inputs, keys, lits, marks, row, id, y, run)
+    weigh(tree, encoder, id, y);
 }
 
 // The same n times, its mark, in the cell at, and its words taken back before each. How many words it takes.
-fn weighed(
-    nodes: &[u32],
-    inputs: &[i32],
-    keys: &[u32],
-    lits: &mut [i32],
-    marks: &mut [u8],
-    row: &mut [i32],
-    id: usize,
-    y: usize,
-    at: usize,
-    run: Run,
-    n: usize,
-) -> usize
-    requires fit { Fit nodes.now inputs.now lits.old marks.old run }
-    requires generals { Generals nodes.now keys.now }
+fn weighed(tree: &Tree, encoder: &mut Encoder, id: usize, y: usize, at: usize, n: usize) -> usize
+    requires fit { FitFor tree.now encoder.old }
+    requires generals { Generals tree.now.nodes.now tree.now.keys.now }
 {
-    let from = run.words;
-    let mut next = run.next;
+    let from = encoder.run.words;
     let mut words = 0;
-    let mut i = 0;
-    while i < n {
-        unmark(marks, at, y);
-        let r = weigh_one(
-            nodes,
-            inputs,
-            keys,
-            lits,
-            marks,
-            row,
-            id,
-            y,
-            Run { next, words: from },
-        );
-        next = r.next;
-        words = less(r.words, from);
-        i += 1;
+    for _ in 0..n {
+        unmark(encoder.marks, at, y);
+        encoder.run.words = from;
+        weigh_one(tree, encoder, id, y);
+        words = less(encoder.run.words, from);
     }
     words
 }
@@ -317,22 +236,21 @@ fn in_use(
     let words = c.nodes * 8;
     let leaves = c.inputs;
     let cells = c.cells;
-    weighed(
-        &nodes[..words],
-        &inputs[..leaves],
-        &keys[..cells],
-        &mut lits[..cells],
-        &mut marks[..cells],
+    let tree = Tree {
+        nodes: &nodes[..words],
+        inputs: &inputs[..leaves],
+        keys: &keys[..cells],
+    };
+    let mut encoder = Encoder {
+        lits: &mut lits[..cells],
+        marks: &mut marks[..cells],
         row,
-        id,
-        y,
-        at,
-        Run {
+        run: Run {
             next: c.next,
             words: from,
         },
-        n,
-    )
+    };
+    weighed(&tree, &mut encoder, id, y, at, n)
 }
 
 // ---- the table check
@@ -347,24 +265,21 @@ fn one(b: bool) -> usize
     if b { 1 } else { 0 }
 }
 
-// How many of n checks pass. A mark past those in use is changed each time, so that no check is left out.
-fn checks(
-    nodes: &[u32; 128],
-    inputs: &[i32; 8],
-    keys: &[u32; 8192],
-    lits: &[i32; 8192],
-    marks: &mut [u8; 8192],
-    c: Counters,
-    n: usize,
-) -> usize {
-    let mut ok = 0;
-    let mut i = 0;
-    while i < n {
-        put_mark(marks, 8191, bit(i));
-        ok = ok + one(table_ok(nodes, inputs, keys, lits, marks, 16384, c));
-        i += 1;
+impl<'a> Rows<'a> {
+    // How many of n checks pass. A mark past those in use is changed each time, so that no check is left out.
+    fn checks(&mut self, c: Counters, n: usize) -> usize {
+        let mut ok = 0;
+        for i in 0..n {
+            put_mark(self.marks, 8191, bit(i));
+            let nodes = &mut *self.nodes;
+            let inputs = &mut *self.inputs;
+            let keys = &mut *self.keys;
+            let lits = &mut *self.lits;
+            let marks = &mut *self.marks;
+            ok += one(table_ok(nodes, inputs, keys, lits, marks, 16384, c));
+        }
+        ok
     }
-    ok
 }
 
 // ---- writing
@@ -384,10 +299,8 @@ fn end_at(row: &[i32], k: usize) -> usize
 // How many clauses the words from one place to another hold.
 fn clauses_in(row: &[i32], from: usize, to: usize) -> usize {
     let mut n = 0;
-    let mut k = from;
-    while k < to {
-        n = n + end_at(row, k);
-        k += 1;
+    for k in from..to {
+        n += end_at(row, k);
     }
     n
 }
@@ -411,115 +324,65 @@ fn say_line(what: &[u8], n: usize) {
 
 // ---- the parts
 
-fn called(
-    nodes: &[u32; 128],
-    inputs: &[i32; 8],
-    keys: &[u32; 8192],
-    lits: &mut [i32; 8192],
-    marks: &mut [u8; 8192],
-    clauses: &mut [i32; 16384],
-    ints: &mut [i32; 8192],
-    bytes: &mut [u8; 8192],
-    c: Counters,
-    id: usize,
-    v: usize,
-    n: usize,
-) {
-    let now = calls(
-        nodes, inputs, keys, lits, marks, clauses, ints, bytes, c, id, v, n,
-    );
-    say_line(b"  the call: ", less(now.words, c.words));
-}
+impl<'a> Rows<'a> {
+    fn called(&mut self, c: Counters, id: usize, v: usize, n: usize) {
+        let now = self.calls(c, id, v, n);
+        say_line(b"  the call: ", less(now.words, c.words));
+    }
 
-// The recursion alone: its words from the place given on.
-fn weighs(
-    nodes: &[u32; 128],
-    inputs: &[i32; 8],
-    keys: &[u32; 8192],
-    lits: &mut [i32; 8192],
-    marks: &mut [u8; 8192],
-    clauses: &mut [i32; 16384],
-    c: Counters,
-    id: usize,
-    v: usize,
-    from: usize,
-    n: usize,
-) {
-    let at = cell(nodes, id, v);
-    let words = in_use(
-        nodes, inputs, keys, lits, marks, clauses, c, id, v, at, from, n,
-    );
-    say_line(b"  the recursion: ", words);
-}
+    // The recursion alone: its words from the place given on.
+    fn weighs(&mut self, c: Counters, id: usize, v: usize, from: usize, n: usize) {
+        let at = self.cell(id, v);
+        let nodes = &mut *self.nodes;
+        let inputs = &mut *self.inputs;
+        let keys = &mut *self.keys;
+        let lits = &mut *self.lits;
+        let marks = &mut *self.marks;
+        let clauses = &mut *self.clauses;
+        let words = in_use(
+            nodes, inputs, keys, lits, marks, clauses, c, id, v, at, from, n,
+        );
+        say_line(b"  the recursion: ", words);
+    }
 
-fn part(
-    nodes: &[u32; 128],
-    inputs: &[i32; 8],
-    keys: &[u32; 8192],
-    lits: &mut [i32; 8192],
-    marks: &mut [u8; 8192],
-    clauses: &mut [i32; 16384],
-    ints: &mut [i32; 8192],
-    bytes: &mut [u8; 8192],
-    c: Counters,
-    id: usize,
-    v: usize,
-    what: u8,
-    n: usize,
-) {
-    match what {
-        b'p' => called(
-            nodes, inputs, keys, lits, marks, clauses, ints, bytes, c, id, v, n,
-        ),
-        b'w' => weighs(
-            nodes, inputs, keys, lits, marks, clauses, c, id, v, c.words, n,
-        ),
-        b'd' => weighs(
-            nodes, inputs, keys, lits, marks, clauses, c, id, v, 16384, n,
-        ),
-        b't' => say_line(
-            b"  checks: ",
-            checks(nodes, inputs, keys, lits, marks, c, n),
-        ),
-        _ => {
-            called(
-                nodes, inputs, keys, lits, marks, clauses, ints, bytes, c, id, v, n,
-            );
-            weighs(
-                nodes, inputs, keys, lits, marks, clauses, c, id, v, c.words, n,
-            );
-            weighs(
-                nodes, inputs, keys, lits, marks, clauses, c, id, v, 16384, n,
-            )
+    fn part(&mut self, c: Counters, id: usize, v: usize, what: u8, n: usize) {
+        match what {
+            b'p' => self.called(c, id, v, n),
+            b'w' => self.weighs(c, id, v, c.words, n),
+            b'd' => self.weighs(c, id, v, 16384, n),
+            b't' => say_line(b"  checks: ", self.checks(c, n)),
+            _ => {
+                self.called(c, id, v, n);
+                self.weighs(c, id, v, c.words, n);
+                self.weighs(c, id, v, 16384, n)
+            }
         }
     }
-}
 
-// One value: the demand once, with its clauses; and then the part. The counters are those after it, its words taken back.
-fn value(
-    nodes: &[u32; 128],
-    inputs: &[i32; 8],
-    keys: &[u32; 8192],
-    lits: &mut [i32; 8192],
-    marks: &mut [u8; 8192],
-    clauses: &mut [i32; 16384],
-    ints: &mut [i32; 8192],
-    bytes: &mut [u8; 8192],
-    c: Counters,
-    id: usize,
-    v: usize,
-    what: u8,
-    n: usize,
-) -> Counters {
-    let d = calls(
-        nodes, inputs, keys, lits, marks, clauses, ints, bytes, c, id, v, 1,
-    );
-    say_demand(clauses, v, c.words, d.words);
-    let now = with_words(d, c.words);
-    part(
-        nodes, inputs, keys, lits, marks, clauses, ints, bytes, now, id, v, what, n,
-    );
-    now
+    // One value: the demand once, with its clauses; and then the part. The counters are those after it, its words taken back.
+    fn value(&mut self, c: Counters, id: usize, v: usize, what: u8, n: usize) -> Counters {
+        let d = self.calls(c, id, v, 1);
+        say_demand(self.clauses, v, c.words, d.words);
+        let now = with_words(d, c.words);
+        self.part(now, id, v, what, n);
+        now
+    }
+
+    // The letters from one to another.
+    fn values(&mut self, c: Counters, from: u8, to: u8, what: u8, n: usize) {
+        let mut now = c;
+        for which in from..to {
+            now = self.value(now, node_of(which), value_of(which), what, n);
+        }
+    }
+
+    // The value 1024 has 1023 pairs, in which every output of nodes 5 and 6 is.
+    fn run(&mut self, what: u8, which: u8, n: usize) {
+        let c = self.low();
+        let c = self.high(c);
+        let d = self.call(c, 7, 1024);
+        self.values(with_words(d, 0), first_of(which), end_of(which), what, n);
+    }
 }
 
 fn node_of(which: u8) -> usize {
@@ -534,34 +397,6 @@ fn value_of(which: u8) -> usize {
         b'd' => 2046,
         b'e' => 1200,
         _ => 1024,
-    }
-}
-
-// The letters from one to another.
-fn values(
-    nodes: &[u32; 128],
-    inputs: &[i32; 8],
-    keys: &[u32; 8192],
-    lits: &mut [i32; 8192],
-    marks: &mut [u8; 8192],
-    clauses: &mut [i32; 16384],
-    ints: &mut [i32; 8192],
-    bytes: &mut [u8; 8192],
-    c: Counters,
-    from: u8,
-    to: u8,
-    what: u8,
-    n: usize,
-) {
-    let mut now = c;
-    let mut which = from;
-    while which < to {
-        let id = node_of(which);
-        let v = value_of(which);
-        now = value(
-            nodes, inputs, keys, lits, marks, clauses, ints, bytes, now, id, v, what, n,
-        );
-        which += 1;
     }
 }
 
@@ -593,8 +428,7 @@ fn times(digit: u8) -> usize {
     }
 }
 
-// The value 1024 has 1023 pairs, in which every output of nodes 5 and 6 is.
-fn run(
+fn over(
     nodes: &mut [u32; 128],
     inputs: &mut [i32; 8],
     keys: &mut [u32; 8192],
@@ -603,21 +437,19 @@ fn run(
     clauses: &mut [i32; 16384],
     ints: &mut [i32; 8192],
     bytes: &mut [u8; 8192],
-    what: u8,
-    which: u8,
-    n: usize,
+    asked: [u8; 3],
 ) {
-    let c = low(nodes, inputs, keys, lits, marks);
-    let c = high(nodes, inputs, keys, lits, marks, c);
-    let d = call(
-        nodes, inputs, keys, lits, marks, clauses, ints, bytes, c, 7, 1024,
-    );
-    let now = with_words(d, 0);
-    let from = first_of(which);
-    let to = end_of(which);
-    values(
-        nodes, inputs, keys, lits, marks, clauses, ints, bytes, now, from, to, what, n,
-    );
+    let mut rows = Rows {
+        nodes,
+        inputs,
+        keys,
+        lits,
+        marks,
+        clauses,
+        ints,
+        bytes,
+    };
+    rows.run(asked[0], asked[1], times(asked[2]));
 }
 
 fn main() {
@@ -631,10 +463,7 @@ fn main() {
     let mut bytes = [0u8; 8192];
     let mut asked = [0u8; 3];
     io::read_full(0, &mut asked);
-    let what = asked[0];
-    let which = asked[1];
-    let n = times(asked[2]);
-    run(
+    over(
         &mut nodes,
         &mut inputs,
         &mut keys,
@@ -643,8 +472,6 @@ fn main() {
         &mut clauses,
         &mut ints,
         &mut bytes,
-        what,
-        which,
-        n,
+        asked,
     );
 }

@@ -10,50 +10,41 @@ use paper::{Mark, Node, Precond, Ranges, Span, Todo, Want};
 use rows::{con_len, min, node_at};
 
 // "marks (0 none, 1 If, 2 OnlyIf, 3 both)"
+#[tactic(auto, unfolding(paper::specs::Plain::mark_of))]
 fn mark_of(m: u8) -> Mark
     ensures { result ≡ mark_of m }
 {
-    if m == 0 {
-        return Mark::Unmarked;
+    match m {
+        0 => Mark::Unmarked,
+        1 => Mark::MarkedIf,
+        2 => Mark::MarkedOnlyIf,
+        _ => Mark::MarkedBoth,
     }
-    if m == 1 {
-        return Mark::MarkedIf;
-    }
-    if m == 2 {
-        return Mark::MarkedOnlyIf;
-    }
-    Mark::MarkedBoth
 }
 
+#[tactic(auto, unfolding(paper::specs::Plain::has_if))]
 fn has_if(m: Mark) -> bool
     ensures { result ≡ has_if m }
 {
-    match m {
-        Mark::Unmarked => false,
-        Mark::MarkedIf => true,
-        Mark::MarkedOnlyIf => false,
-        Mark::MarkedBoth => true,
-    }
+    matches!(m, Mark::MarkedIf | Mark::MarkedBoth)
 }
 
+#[tactic(auto, unfolding(paper::specs::Plain::has_only))]
 fn has_only(m: Mark) -> bool
     ensures { result ≡ has_only m }
 {
-    match m {
-        Mark::Unmarked => false,
-        Mark::MarkedIf => false,
-        Mark::MarkedOnlyIf => true,
-        Mark::MarkedBoth => true,
-    }
+    matches!(m, Mark::MarkedOnlyIf | Mark::MarkedBoth)
 }
 
+#[tactic(auto, unfolding(paper::specs::Plain::mark_byte))]
 fn mark_byte(i: bool, o: bool) -> u8
     ensures { result ≡ mark_byte i o }
 {
-    if i {
-        if o { 3 } else { 1 }
-    } else {
-        if o { 2 } else { 0 }
+    match (i, o) {
+        (true, true) => 3,
+        (true, false) => 1,
+        (false, true) => 2,
+        (false, false) => 0,
     }
 }
 
@@ -79,10 +70,10 @@ fn if_span(a: usize, b: usize, i: usize) -> Span
 {
     let x = i + 1 - min(b, i + 1);
     let to = min(a, i + 1);
-    if x == 0 {
-        return Span { from: 0, to };
+    Span {
+        from: x.saturating_sub(1),
+        to,
     }
-    Span { from: x - 1, to }
 }
 
 // .. and OnlyIf.
@@ -95,44 +86,24 @@ fn only_span(a: usize, b: usize, i: usize) -> Span
     Span { from, to }
 }
 
-// The same where the direction is missing, else none.
-fn if_wanted(on: bool, a: usize, b: usize, i: usize) -> Span
-    requires { i < 2 ^ 63 }
-    ensures { result ≡ cond on (if_span a b i) no_span }
+// The span of a direction that is missing, else none.
+fn wanted(on: bool, span: Span) -> Span
+    ensures { result ≡ cond on span no_span }
 {
-    if on {
-        if_span(a, b, i)
-    } else {
-        Span { from: 0, to: 0 }
-    }
-}
-
-fn only_wanted(on: bool, a: usize, b: usize, i: usize) -> Span
-    requires { i < 2 ^ 63 }
-    ensures { result ≡ cond on (only_span a b i) no_span }
-{
-    if on {
-        only_span(a, b, i)
-    } else {
-        Span { from: 0, to: 0 }
-    }
+    if on { span } else { Span { from: 0, to: 0 } }
 }
 
 fn ranges_of(n: Node, a: usize, b: usize, w: Want, i: usize) -> Ranges
     requires { i < 2 ^ 63 }
     ensures { result ≡ ranges_of n a b w i }
 {
-    let left_if = if_wanted(w.fi, a, b, i);
-    let right_if = if_wanted(w.fi, b, a, i);
-    let left_only = only_wanted(w.fo, a, b, i);
-    let right_only = only_wanted(w.fo, b, a, i);
     Ranges {
         left: n.left,
         right: n.right,
-        left_if,
-        right_if,
-        left_only,
-        right_only,
+        left_if: wanted(w.fi, if_span(a, b, i)),
+        right_if: wanted(w.fi, if_span(b, a, i)),
+        left_only: wanted(w.fo, only_span(a, b, i)),
+        right_only: wanted(w.fo, only_span(b, a, i)),
     }
 }
 
@@ -147,8 +118,7 @@ fn precond_two(n: Node, l: Node, r: Node, i: usize, todo: Todo) -> Precond
     if r.kind == 3 {
         return Precond::Pass(n.left, todo);
     }
-    let w = todo.want;
-    let rs = ranges_of(n, con_len(l), con_len(r), w, i);
+    let rs = ranges_of(n, con_len(l), con_len(r), todo.want, i);
     Precond::Continue(rs, todo)
 }
 
@@ -159,13 +129,9 @@ pub fn precond_unit(nodes: &[u32], n: Node, i: usize, todo: Todo) -> Precond
 {
     let l = node_at(nodes, n.left);
     let r = node_at(nodes, n.right);
-    let p = precond_two(n, l, r, i, todo);
-    let w = todo.want;
-    if w.fi {
-        return p;
+    if todo.want.fi | todo.want.fo {
+        precond_two(n, l, r, i, todo)
+    } else {
+        Precond::Return
     }
-    if w.fo {
-        return p;
-    }
-    Precond::Return
 }

@@ -13,38 +13,38 @@ overflow_mul-words c = let t = sym c.table_ok.ensures ∙ c.if-not-table_ok.fals
     let f = table_facts _ _ _ _ _ _ _ _ t in
     record { fits = omega (arith, f.counters.node_limit_met) }
 
-pub slice_bounds-weighed-end : goal.slice_bounds-weighed-end
-slice_bounds-weighed-end c = let t = sym c.table_ok.ensures ∙ c.if-not-table_ok.false in
+pub slice_bounds-tree-end : goal.slice_bounds-tree-end
+slice_bounds-tree-end c = let t = sym c.table_ok.ensures ∙ c.if-not-table_ok.false in
     let f = table_facts _ _ _ _ _ _ _ _ t in
     sym (used_length _ _ (words_fit f.counters))
 
-pub slice_bounds-weighed-end-2 : goal.slice_bounds-weighed-end-2
-slice_bounds-weighed-end-2 c = let t = sym c.table_ok.ensures ∙ c.if-not-table_ok.false in
+pub slice_bounds-tree-end-2 : goal.slice_bounds-tree-end-2
+slice_bounds-tree-end-2 c = let t = sym c.table_ok.ensures ∙ c.if-not-table_ok.false in
     let f = table_facts _ _ _ _ _ _ _ _ t in
     sym (used_length _ _ f.input_row)
 
-pub slice_bounds-weighed-end-3 : goal.slice_bounds-weighed-end-3
-slice_bounds-weighed-end-3 c = let t = sym c.table_ok.ensures ∙ c.if-not-table_ok.false in
+pub slice_bounds-tree-end-3 : goal.slice_bounds-tree-end-3
+slice_bounds-tree-end-3 c = let t = sym c.table_ok.ensures ∙ c.if-not-table_ok.false in
     let f = table_facts _ _ _ _ _ _ _ _ t in
     sym (used_length _ _ f.counters.cell_row)
 
-pub slice_bounds-weighed-end-4 : goal.slice_bounds-weighed-end-4
-slice_bounds-weighed-end-4 c = let t = sym c.table_ok.ensures ∙ c.if-not-table_ok.false in
+pub slice_bounds-encoder-end : goal.slice_bounds-encoder-end
+slice_bounds-encoder-end c = let t = sym c.table_ok.ensures ∙ c.if-not-table_ok.false in
     let f = table_facts _ _ _ _ _ _ _ _ t in
     f.lit_row
 
-pub slice_bounds-weighed-end-5 : goal.slice_bounds-weighed-end-5
-slice_bounds-weighed-end-5 c = let t = sym c.table_ok.ensures ∙ c.if-not-table_ok.false in
+pub slice_bounds-encoder-end-2 : goal.slice_bounds-encoder-end-2
+slice_bounds-encoder-end-2 c = let t = sym c.table_ok.ensures ∙ c.if-not-table_ok.false in
     let f = table_facts _ _ _ _ _ _ _ _ t in
     sym (used_length _ _ f.lit_row)
 
-pub slice_bounds-weighed-end-6 : goal.slice_bounds-weighed-end-6
-slice_bounds-weighed-end-6 c = let t = sym c.table_ok.ensures ∙ c.if-not-table_ok.false in
+pub slice_bounds-encoder-end-3 : goal.slice_bounds-encoder-end-3
+slice_bounds-encoder-end-3 c = let t = sym c.table_ok.ensures ∙ c.if-not-table_ok.false in
     let f = table_facts _ _ _ _ _ _ _ _ t in
     f.mark_row
 
-pub slice_bounds-weighed-end-7 : goal.slice_bounds-weighed-end-7
-slice_bounds-weighed-end-7 c = let t = sym c.table_ok.ensures ∙ c.if-not-table_ok.false in
+pub slice_bounds-encoder-end-4 : goal.slice_bounds-encoder-end-4
+slice_bounds-encoder-end-4 c = let t = sym c.table_ok.ensures ∙ c.if-not-table_ok.false in
     let f = table_facts _ _ _ _ _ _ _ _ t in
     sym (used_length _ _ f.mark_row)
 
