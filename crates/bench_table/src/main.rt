@@ -10,7 +10,7 @@ use paper::{Counters, Pair, Refusal};
 use std::io;
 use std::io::Read;
 
-// Why a run ends before its line is written. A refusal stands here as document 01's number of it.
+// Why a run ends early: a call is refused, by document 01's number, or the line can't be written.
 #[derive(Debug, Drop)]
 enum Failure {
     Refused(u32),
@@ -29,7 +29,7 @@ impl From<io::Error> for Failure {
     }
 }
 
-// Towers of general nodes, as the multipliers of the leaf on the right: the topmost of the first two has 68 and 136 values.
+// Towers of general nodes, as the multipliers of the leaf on the right. The topmost node has as many values as the name says.
 const TO_68: &[usize] = &[2, 4, 8, 16, 32, 5];
 
 const TO_136: &[usize] = &[2, 4, 8, 16, 32, 64, 9];
@@ -38,7 +38,7 @@ const TO_2047: &[usize] = &[2, 4, 8, 16, 32, 64, 128, 256, 512, 1024];
 
 const TO_4095: &[usize] = &[2, 4, 8, 16, 32, 64, 128, 256, 512, 1024, 2048];
 
-// What is timed: checks of units, of a tower with a large node above it, of a tower; or the large node, added.
+// What is timed: checks of units, of a large node over a tower, of a tower alone; or the large node, added.
 #[derive(Clone, Copy)]
 enum Case {
     Units,
@@ -155,7 +155,7 @@ impl Table {
         Ok(())
     }
 
-    // The general node over node 5, which has 63 values, and the topmost of the tower.
+    // A general node over node 5, which has 63 values, and the topmost of the tower.
     fn large(&mut self, muls: &[usize]) -> Result<(), Refusal> {
         self.inner(5, muls.len(), 64)
     }
@@ -198,7 +198,7 @@ impl Table {
     }
 }
 
-// A byte that is not there is no case, and once.
+// A byte that is missing reads as 0.
 fn main(rt: HostRuntime) -> Result<(), Failure> {
     let mut asked = rt.reader().bytes().map_while(Result::ok);
     let case = Case::from(asked.next().unwrap_or(0));
