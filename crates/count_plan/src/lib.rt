@@ -10,54 +10,46 @@ use paper::{Mark, Node, Precond, Ranges, Span, Todo, Want};
 use rows::{con_len, min, node_at};
 
 // "marks (0 none, 1 If, 2 OnlyIf, 3 both)"
+#[tactic(auto, unfolding(paper::specs::Plain::mark_of))]
 fn mark_of(m: u8) -> Mark
     ensures { result ≡ mark_of m }
 {
-    if m == 0 {
-        return Mark::Unmarked;
+    match m {
+        0 => Mark::Unmarked,
+        1 => Mark::MarkedIf,
+        2 => Mark::MarkedOnlyIf,
+        _ => Mark::MarkedBoth,
     }
-    if m == 1 {
-        return Mark::MarkedIf;
-    }
-    if m == 2 {
-        return Mark::MarkedOnlyIf;
-    }
-    Mark::MarkedBoth
 }
 
+#[tactic(auto, unfolding(paper::specs::Plain::has_if))]
 fn has_if(m: Mark) -> bool
     ensures { result ≡ has_if m }
 {
-    match m {
-        Mark::Unmarked => false,
-        Mark::MarkedIf => true,
-        Mark::MarkedOnlyIf => false,
-        Mark::MarkedBoth => true,
-    }
+    matches!(m, Mark::MarkedIf | Mark::MarkedBoth)
 }
 
+#[tactic(auto, unfolding(paper::specs::Plain::has_only))]
 fn has_only(m: Mark) -> bool
     ensures { result ≡ has_only m }
 {
-    match m {
-        Mark::Unmarked => false,
-        Mark::MarkedIf => false,
-        Mark::MarkedOnlyIf => true,
-        Mark::MarkedBoth => true,
-    }
+    matches!(m, Mark::MarkedOnlyIf | Mark::MarkedBoth)
 }
 
+#[tactic(auto, unfolding(paper::specs::Plain::mark_byte))]
 fn mark_byte(i: bool, o: bool) -> u8
     ensures { result ≡ mark_byte i o }
 {
-    if i {
-        if o { 3 } else { 1 }
-    } else {
-        if o { 2 } else { 0 }
+    match (i, o) {
+        (false, false) => 0,
+        (true, false) => 1,
+        (false, true) => 2,
+        (true, true) => 3,
     }
 }
 
 // "Missing marks only": what of the demand is missing, and the mark once it is met.
+#[tactic(auto, unfolding(paper::specs::Plain::missing_of))]
 pub fn missing(m: u8, want: Want) -> Todo
     ensures { result ≡ missing_of m want }
 {
@@ -73,6 +65,7 @@ pub fn missing(m: u8, want: Want) -> Todo
 }
 
 // The outputs of a child with a outputs beside one with b that output i needs: If ..
+#[tactic(auto, unfolding(paper::specs::Plain::if_span))]
 fn if_span(a: usize, b: usize, i: usize) -> Span
     requires { i < 2 ^ 63 }
     ensures { result ≡ if_span a b i }
@@ -86,6 +79,7 @@ fn if_span(a: usize, b: usize, i: usize) -> Span
 }
 
 // .. and OnlyIf.
+#[tactic(auto, unfolding(paper::specs::Plain::only_span))]
 fn only_span(a: usize, b: usize, i: usize) -> Span
     requires { i < 2 ^ 63 }
     ensures { result ≡ only_span a b i }
@@ -95,37 +89,22 @@ fn only_span(a: usize, b: usize, i: usize) -> Span
     Span { from, to }
 }
 
-// The same where the direction is missing, else none.
-fn if_wanted(on: bool, a: usize, b: usize, i: usize) -> Span
-    requires { i < 2 ^ 63 }
-    ensures { result ≡ cond on (if_span a b i) no_span }
+// The span where its direction is missing, else none.
+fn wanted(on: bool, span: Span) -> Span
+    ensures { result ≡ cond on span no_span }
 {
-    if on {
-        if_span(a, b, i)
-    } else {
-        Span { from: 0, to: 0 }
-    }
+    if on { span } else { Span { from: 0, to: 0 } }
 }
 
-fn only_wanted(on: bool, a: usize, b: usize, i: usize) -> Span
-    requires { i < 2 ^ 63 }
-    ensures { result ≡ cond on (only_span a b i) no_span }
-{
-    if on {
-        only_span(a, b, i)
-    } else {
-        Span { from: 0, to: 0 }
-    }
-}
-
+#[tactic(auto, unfolding(paper::specs::Plain::ranges_of))]
 fn ranges_of(n: Node, a: usize, b: usize, w: Want, i: usize) -> Ranges
     requires { i < 2 ^ 63 }
     ensures { result ≡ ranges_of n a b w i }
 {
-    let left_if = if_wanted(w.fi, a, b, i);
-    let right_if = if_wanted(w.fi, b, a, i);
-    let left_only = only_wanted(w.fo, a, b, i);
-    let right_only = only_wanted(w.fo, b, a, i);
+    let left_if = wanted(w.fi, if_span(a, b, i));
+    let right_if = wanted(w.fi, if_span(b, a, i));
+    let left_only = wanted(w.fo, only_span(a, b, i));
+    let right_only = wanted(w.fo, only_span(b, a, i));
     Ranges {
         left: n.left,
         right: n.right,
@@ -137,14 +116,15 @@ fn ranges_of(n: Node, a: usize, b: usize, w: Want, i: usize) -> Ranges
 }
 
 // "One child dummy: demand the missing part at i of the other child"; else the ranges.
+#[tactic(auto, unfolding(paper::specs::Plain::plan_two))]
 fn precond_two(n: Node, l: Node, r: Node, i: usize, todo: Todo) -> Precond
     requires { i < 2 ^ 63 }
     ensures { result ≡ plan_two n l r i todo }
 {
-    if l.kind == 3 {
+    if l.is_dummy() {
         return Precond::Pass(n.right, todo);
     }
-    if r.kind == 3 {
+    if r.is_dummy() {
         return Precond::Pass(n.left, todo);
     }
     let w = todo.want;
@@ -153,6 +133,7 @@ fn precond_two(n: Node, l: Node, r: Node, i: usize, todo: Todo) -> Precond
 }
 
 // "None missing: answer the literal, do nothing."
+#[tactic(auto, unfolding(paper::specs::Plain::plan_unit))]
 pub fn precond_unit(nodes: &[u32], n: Node, i: usize, todo: Todo) -> Precond
     requires { i < 2 ^ 63 }
     ensures { result ≡ plan_unit n (node_at nodes.now n.left) (node_at nodes.now n.right) i todo }
@@ -161,11 +142,5 @@ pub fn precond_unit(nodes: &[u32], n: Node, i: usize, todo: Todo) -> Precond
     let r = node_at(nodes, n.right);
     let p = precond_two(n, l, r, i, todo);
     let w = todo.want;
-    if w.fi {
-        return p;
-    }
-    if w.fo {
-        return p;
-    }
-    Precond::Return
+    if w.fi | w.fo { p } else { Precond::Return }
 }
