@@ -41,14 +41,15 @@ fn mark_byte(i: bool, o: bool) -> u8
     ensures { result ≡ mark_byte i o }
 {
     match (i, o) {
-        (true, true) => 3,
+        (false, false) => 0,
         (true, false) => 1,
         (false, true) => 2,
-        (false, false) => 0,
+        (true, true) => 3,
     }
 }
 
 // "Missing marks only": what of the demand is missing, and the mark once it is met.
+#[tactic(auto, unfolding(paper::specs::Plain::missing_of))]
 pub fn missing(m: u8, want: Want) -> Todo
     ensures { result ≡ missing_of m want }
 {
@@ -64,19 +65,21 @@ pub fn missing(m: u8, want: Want) -> Todo
 }
 
 // The outputs of a child with a outputs beside one with b that output i needs: If ..
+#[tactic(auto, unfolding(paper::specs::Plain::if_span))]
 fn if_span(a: usize, b: usize, i: usize) -> Span
     requires { i < 2 ^ 63 }
     ensures { result ≡ if_span a b i }
 {
     let x = i + 1 - min(b, i + 1);
     let to = min(a, i + 1);
-    Span {
-        from: x.saturating_sub(1),
-        to,
+    if x == 0 {
+        return Span { from: 0, to };
     }
+    Span { from: x - 1, to }
 }
 
 // .. and OnlyIf.
+#[tactic(auto, unfolding(paper::specs::Plain::only_span))]
 fn only_span(a: usize, b: usize, i: usize) -> Span
     requires { i < 2 ^ 63 }
     ensures { result ≡ only_span a b i }
@@ -86,36 +89,42 @@ fn only_span(a: usize, b: usize, i: usize) -> Span
     Span { from, to }
 }
 
-// The span of a direction that is missing, else none.
+// The span where its direction is missing, else none.
 fn wanted(on: bool, span: Span) -> Span
     ensures { result ≡ cond on span no_span }
 {
     if on { span } else { Span { from: 0, to: 0 } }
 }
 
+#[tactic(auto, unfolding(paper::specs::Plain::ranges_of))]
 fn ranges_of(n: Node, a: usize, b: usize, w: Want, i: usize) -> Ranges
     requires { i < 2 ^ 63 }
     ensures { result ≡ ranges_of n a b w i }
 {
+    let left_if = wanted(w.fi, if_span(a, b, i));
+    let right_if = wanted(w.fi, if_span(b, a, i));
+    let left_only = wanted(w.fo, only_span(a, b, i));
+    let right_only = wanted(w.fo, only_span(b, a, i));
     Ranges {
         left: n.left,
         right: n.right,
-        left_if: wanted(w.fi, if_span(a, b, i)),
-        right_if: wanted(w.fi, if_span(b, a, i)),
-        left_only: wanted(w.fo, only_span(a, b, i)),
-        right_only: wanted(w.fo, only_span(b, a, i)),
+        left_if,
+        right_if,
+        left_only,
+        right_only,
     }
 }
 
 // "One child dummy: demand the missing part at i of the other child"; else the ranges.
+#[tactic(auto, unfolding(paper::specs::Plain::plan_two))]
 fn precond_two(n: Node, l: Node, r: Node, i: usize, todo: Todo) -> Precond
     requires { i < 2 ^ 63 }
     ensures { result ≡ plan_two n l r i todo }
 {
-    if l.kind == 3 {
+    if l.is_dummy() {
         return Precond::Pass(n.right, todo);
     }
-    if r.kind == 3 {
+    if r.is_dummy() {
         return Precond::Pass(n.left, todo);
     }
     let rs = ranges_of(n, con_len(l), con_len(r), todo.want, i);
@@ -123,6 +132,7 @@ fn precond_two(n: Node, l: Node, r: Node, i: usize, todo: Todo) -> Precond
 }
 
 // "None missing: answer the literal, do nothing."
+#[tactic(auto, unfolding(paper::specs::Plain::plan_unit))]
 pub fn precond_unit(nodes: &[u32], n: Node, i: usize, todo: Todo) -> Precond
     requires { i < 2 ^ 63 }
     ensures { result ≡ plan_unit n (node_at nodes.now n.left) (node_at nodes.now n.right) i todo }

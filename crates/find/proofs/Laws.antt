@@ -15,7 +15,7 @@ use Rattle.paper.specs.declared.Node.{Node}
 use Rattle.paper.specs.declared.Way.{Way}
 use Rattle.paper.specs.declared.Job.{Job}
 use Rattle.paper.specs.declared.Job.TheVariants.{Nothing, Count, Sum}
-use Rattle.find.specs.Ways.{Sorted, Muls, Place}
+use Rattle.find.specs.Ways.{Sorted, Place}
 
 -- ---- counts
 
@@ -150,43 +150,8 @@ module _ (keys : List ℕ) (n l r : Node) (v p : ℕ) where
       (λ _. record { left = omega arith; right = share_place keys r n.rmul v }))
 
 -- what is asked of a node, of one that is read
-pub muls_by : (n m : Node) → n ≡ m → Muls m → Muls n
-muls_by n m e h = rw e h
-
 pub sorted_by : (keys : List ℕ) (n m : Node) → n ≡ m → Sorted keys m → Sorted keys n
 sorted_by keys n m e h = rw e h
-
--- ---- jobs
-
-module _ (ns keys marks : List ℕ) (k y : ℕ) (n : Node) (e : n ≡ node_at ns k) where
-  is_kind : n.kind ≡ (node_at ns k).kind
-  is_kind = ap (λ (m : Node). m.kind) e
-
-  pub job_zero : y ≡ 0 → job_of ns keys marks k y ≡ Nothing
-  unfolding job_of
-  job_zero z = rw (eq-eqb y 0 z)
-
-  pub job_count : (y ≡ 0 → ⊥) → n.kind ≡ 1 → job_of ns keys marks k y ≡ Count (y - 1)
-  unfolding job_of
-  job_count z u = rw (ne_eqb y 0 z, eq-eqb (node_at ns k).kind 1 (sym is_kind ∙ u))
-
-  pub job_sum : (y ≡ 0 → ⊥) → n.kind ≡ 2 → get_or marks (n.first + (y - 1)) 0 ≡ 0 → job_of ns keys marks k y ≡ Sum (n.first + (y - 1)) (get_or keys (n.first + (y - 1)) 0)
-  unfolding job_of
-  job_sum z u h =
-      let d : (node_at ns k).kind ≡ 2 = sym is_kind ∙ u in
-      let q : eqb (get_or marks ((node_at ns k).first + (y - 1)) 0) 0 ≡ true = eq-eqb (get_or marks ((node_at ns k).first + (y - 1)) 0) 0 (rw (← e) h) in
-      rw (ne_eqb y 0 z, ne_eqb (node_at ns k).kind 1 (λ x. omega arith), eq-eqb (node_at ns k).kind 2 d, q, ← e)
-
-  pub job_marked : (y ≡ 0 → ⊥) → n.kind ≡ 2 → (get_or marks (n.first + (y - 1)) 0 ≡ 0 → ⊥) → job_of ns keys marks k y ≡ Nothing
-  unfolding job_of
-  job_marked z u h =
-      let d : (node_at ns k).kind ≡ 2 = sym is_kind ∙ u in
-      let q : eqb (get_or marks ((node_at ns k).first + (y - 1)) 0) 0 ≡ false = ne_eqb (get_or marks ((node_at ns k).first + (y - 1)) 0) 0 (rw (← e) h) in
-      rw (ne_eqb y 0 z, ne_eqb (node_at ns k).kind 1 (λ x. omega arith), eq-eqb (node_at ns k).kind 2 d, q)
-
-  pub job_other : (y ≡ 0 → ⊥) → (n.kind ≡ 1 → ⊥) → (n.kind ≡ 2 → ⊥) → job_of ns keys marks k y ≡ Nothing
-  unfolding job_of
-  job_other z u h = rw (ne_eqb y 0 z, ne_eqb (node_at ns k).kind 1 (λ x. u (is_kind ∙ x)), ne_eqb (node_at ns k).kind 2 (λ x. h (is_kind ∙ x)))
 
 -- ---- what a job tells
 

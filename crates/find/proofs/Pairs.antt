@@ -73,6 +73,16 @@ module _ (keys : List ℕ) (n : Node) (s : Sorted keys n) (m more v j : ℕ) (h 
   pub cut_above : v ≤ m * value_at keys n j + more → (i : ℕ) → j ≤ i → i < value_count n → v ≤ con_val keys n m i + more
   cut_above g i l k = omega (arith, times_upto keys n s m j i l k)
 
+-- the place that a search by halves finds is one to cut at
+module _ (keys : List ℕ) (n : Node) (s : Sorted keys n) (m more v at : ℕ) (in-range : at ≤ value_count n) where
+  pub cut_of : (0 < at → con_val keys n m (at - 1) + more < v) → (at < value_count n → v ≤ con_val keys n m at + more) → Cut keys n m more v at
+  cut_of before after =
+      record {
+        inside = in-range;
+        below = λ i h. cut_below keys n s m more v (at - 1) (omega arith) (before (omega arith)) i (omega arith);
+        above = λ i h k. cut_above keys n s m more v at (omega arith) (after (omega arith)) i h k;
+      }
+
 -- ---- no pair outside the window
 
 pub pairing_of : (ns keys : List ℕ) (k v : ℕ) (n l r : Node) → n ≡ node_at ns k → l ≡ node_at ns n.left → r ≡ node_at ns n.right → (top : ℕ) → top ≡ largest_of keys r n.rmul → (from to : ℕ)

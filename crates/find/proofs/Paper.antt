@@ -97,6 +97,13 @@ module _ (keys : List ℕ) (first v count : ℕ) where
         go (yes e) = rw e g
         go (no e) = omega (arith, r.rise j i (omega arith) k)
 
+  -- the search by halves ends where no key is v
+  pub key_left : Rising keys first count → (at : ℕ) → at ≤ count → (0 < at → get_or keys (first + (at - 1)) 0 < v) → (at < count → v ≤ get_or keys (first + at) 0)
+      → (at < count → get_or keys (first + at) 0 ≡ v → ⊥) → None ≡ key_from keys first v count 0
+  key_left r at in-range before after other =
+      key_none (none_left at at (omega arith) (λ i h. key_below r (at - 1) (omega arith) (before (omega arith)) i (omega arith))
+      (λ i h k. key_above r at (omega arith) (above (get_or keys (first + at) 0) v (after (omega arith)) (other (omega arith))) i h k))
+
 -- ---- the outputs by value
 
 -- an output of value v, or none has it

@@ -4,16 +4,19 @@ use Rattle.std.specs.Prelude.{Err, Ok, Result}
 use Rattle.paper.specs.Limits.{node_limit, cell_limit, depth_limit, mul_limit, key_limit, node_words}
 use Prim.Native.Nat.{ℕ, zero, suc, ◌+◌, ◌-◌, ◌*◌, ◌/◌, ◌<◌, ◌≤◌, ◌^◌, max, min}
 use mathlib.Core.List.{List}
-use mathlib.Core.Bool.{Bool, true, false, cond, not, ◌&&◌, ◌||◌}
+use mathlib.Core.Bool.{Bool, true, false, cond, not, ◌||◌}
 use mathlib.Core.Path.{◌≡◌, refl, sym, ap, subst, ◌∙◌}
 use mathlib.Core.Logic.{◌⊎◌, inl, inr, ⊎_elim}
 use native.Mathlib.Omega.{arith}
 use lib.ListN.{length, get_or}
 use lib.Dec.{eqb, leb, ltb}
 use lib.IntN.{ℤ}
-use borrow.Author.Tests.{lt-ltb, le-ltb, ltb-true, leb-true, leb-false, eq-eqb, ne_eqb, eqb-false}
+use borrow.Author.Tests.{lt-ltb, le-ltb, ltb-true, leb-true, leb-false, eqb-false}
 use Rattle.paper.specs.Below.{all_at, ands5, side}
-use Rattle.paper.specs.Rows.{node_at, con_len, value_count}
+use Rattle.paper.specs.Rows.{node_at, con_len, value_count, value_at}
+use Rattle.paper.specs.Table.{table_ok}
+use Rattle.keys.specs.Least.{Mono}
+use Rattle.join_plan.proofs.Largest.{node_mono}
 use Rattle.paper.specs.declared.Node.{Node}
 use Rattle.paper.specs.declared.Counters.{Counters}
 use Rattle.paper.specs.Keys.{node_keys}
@@ -22,11 +25,11 @@ use Rattle.facts.proofs.Facts.{table_facts, node_under}
 use Rattle.grow.specs.Small.{Small}
 use Rattle.paper.specs.Grow.{room_for_node}
 use Rattle.grow.proofs.Choose.{room_facts}
-use Rattle.paper.specs.declared.Refusal.TheVariants.{TableFails, NoSuchNode, BadMultiplier, NoValue, KeyTooLarge, TooDeep, NoRoom}
+use Rattle.paper.specs.declared.Refusal.TheVariants.{NoValue, KeyTooLarge, TooDeep, NoRoom}
 use Rattle.paper.specs.declared.Pair.{Pair}
 use Rattle.paper.specs.declared.Sizes.{Sizes}
 use Rattle.join_plan.specs.Ready.{RowReady}
-use Rattle.paper.specs.Join.{count_from, room_for, muls_ok, inner_node, fit_plan, unit_plan, within_limit, keys_plan, general_plan, plain_pair, join_plan, nodes_plan, inner_plan}
+use Rattle.paper.specs.Join.{count_from, room_for, muls_ok, inner_node, fit_plan, unit_plan, within_limit, keys_plan, general_plan, join_plan, inner_plan}
 
 -- 1, 2, ..
 pub count_size : (k n : ℕ) → length (count_from k n) ≡ n
@@ -49,10 +52,6 @@ module _ (kind : ℕ) (j : Pair) (l r : Node) (c : Counters) (count : ℕ) (s : 
   pub fit_deep : depth_limit ≤ max l.depth r.depth → Err TooDeep ≡ fit_plan kind j l r c count s
   unfolding fit_plan
   fit_deep h = rw (le-ltb (max l.depth r.depth) depth_limit h)
-
-  pub fit_makes : max l.depth r.depth < depth_limit → room_for c count s ≡ true → Ok (inner_node kind j c.cells count (max l.depth r.depth + 1)) ≡ fit_plan kind j l r c count s
-  unfolding fit_plan
-  fit_makes h g = rw (lt-ltb (max l.depth r.depth) depth_limit h, g)
 
   pub fit_full : max l.depth r.depth < depth_limit → room_for c count s ≡ false → Err NoRoom ≡ fit_plan kind j l r c count s
   unfolding fit_plan
@@ -106,20 +105,8 @@ fit_min j l r c n s f =
     (side (max l.depth r.depth) depth_limit))
     (side n top)
 
--- keys: none, one too large, or the fit
+-- keys that make a node
 module _ (ks : List ℕ) (j : Pair) (l r : Node) (c : Counters) (s : Sizes) where
-  pub keys_none : length ks ≡ 0 → Err NoValue ≡ keys_plan ks j l r c s
-  unfolding keys_plan
-  keys_none h = rw (eq-eqb (length ks) 0 h)
-
-  pub keys_large : (length ks ≡ 0 → ⊥) → within_limit ks ≡ false → Err KeyTooLarge ≡ keys_plan ks j l r c s
-  unfolding keys_plan
-  keys_large h g = rw (ne_eqb (length ks) 0 h, g)
-
-  pub keys_fit : (length ks ≡ 0 → ⊥) → within_limit ks ≡ true → fit_plan 2 j l r c (length ks) s ≡ keys_plan ks j l r c s
-  unfolding keys_plan
-  keys_fit h g = rw (ne_eqb (length ks) 0 h, g)
-
   pub keys_rest : (n : Node) → keys_plan ks j l r c s ≡ Ok n → (within_limit ks ≡ true) × (fit_plan 2 j l r c (length ks) s ≡ Ok n)
   unfolding keys_plan
   keys_rest n = go (eqb (length ks) 0) (within_limit ks) refl
@@ -129,28 +116,7 @@ module _ (ks : List ℕ) (j : Pair) (l r : Node) (c : Counters) (s : Sizes) wher
       go false true e q = (e, q)
       go false false e q = absurd (let z : ◌≡◌ {A = ℕ} 0 1 = cc in omega arith)
 
--- table, ids, multipliers, kind
-module _ (t m k u : Bool) (U G : Result Node Refusal) where
-  pub plan_table : t ≡ false → Err TableFails ≡ join_plan t m k u U G
-  unfolding join_plan
-  plan_table h = rw h
-
-  pub plan_missing : t ≡ true → m ≡ true → Err NoSuchNode ≡ join_plan t m k u U G
-  unfolding join_plan
-  plan_missing h g = rw (h, g)
-
-  pub plan_muls : t ≡ true → m ≡ false → k ≡ false → Err BadMultiplier ≡ join_plan t m k u U G
-  unfolding join_plan
-  plan_muls h g e = rw (h, g, e)
-
-  pub plan_unit_is : t ≡ true → m ≡ false → k ≡ true → u ≡ true → U ≡ join_plan t m k u U G
-  unfolding join_plan
-  plan_unit_is h g e f = rw (h, g, e, f)
-
-  pub plan_general : t ≡ true → m ≡ false → k ≡ true → u ≡ false → G ≡ join_plan t m k u U G
-  unfolding join_plan
-  plan_general h g e f = rw (h, g, e, f)
-
+-- table, ids, multipliers, kind: what a plan that makes a node rests on
 pub plan_rests : (t m k u : Bool) (U G : Result Node Refusal) (n : Node) → join_plan t m k u U G ≡ Ok n
     → (t ≡ true) × (m ≡ false) × (k ≡ true) × ((U ≡ Ok n) ⊎ (G ≡ Ok n))
 unfolding join_plan
@@ -178,6 +144,28 @@ value_few n cells h u = go (eqb n.kind 0) refl
     go : (t : Bool) → eqb n.kind 0 ≡ t → con_len n ≤ cell_limit
     go true e = rw e (omega arith)
     go false e = let q : n.first + con_len n ≤ cells = u e in omega arith
+
+-- the two children of a checked table
+pub record ChildFacts (keys : List ℕ) (c : Counters) (l r : Node) : Type 0 where
+  pub cell_few : c.cells ≤ cell_limit
+  pub left_few : con_len l ≤ cell_limit
+  pub right_few : con_len r ≤ cell_limit
+  pub left_mono : Mono (con_len l) (λ (k : ℕ). value_at keys l k)
+  pub right_mono : Mono (con_len r) (λ (k : ℕ). value_at keys r k)
+
+pub child_facts : (nodes : List ℕ) (inputs : List ℤ) (keys : List ℕ) (lits : List ℤ) (marks : List ℕ) (clauses : ℕ) (c : Counters) (i j : ℕ)
+    → table_ok nodes inputs keys lits marks clauses c ≡ true → (leb c.nodes i || leb c.nodes j) ≡ false → (l r : Node) → l ≡ node_at nodes i → r ≡ node_at nodes j → ChildFacts keys c l r
+child_facts nodes inputs keys lits marks clauses c i j checked there l r e d =
+    let t = table_facts (node_at nodes) (length nodes / node_words) inputs keys lits marks clauses c checked in
+    let o = or_none (leb c.nodes i) (leb c.nodes j) there in
+    let few : (k : ℕ) → k < c.nodes → con_len (node_at nodes k) ≤ cell_limit = λ k h. value_few (node_at nodes k) c.cells t.counters.cell_limit_met (node_under t k h) in
+    record {
+      cell_few = t.counters.cell_limit_met;
+      left_few = rw e (few i (leb-false _ _ o.0));
+      right_few = rw d (few j (leb-false _ _ o.1));
+      left_mono = rw e (node_mono (t.node i (leb-false _ _ o.0)));
+      right_mono = rw d (node_mono (t.node j (leb-false _ _ o.1)));
+    }
 
 -- what a node that is to be made rests on
 pub record MakeFacts (nodes keys : List ℕ) (lits : List ℤ) (marks : List ℕ) (c : Counters) (n : Node) : Type 0 where
@@ -250,16 +238,3 @@ module _ (nodes : List ℕ) (inputs : List ℤ) (keys : List ℕ) (lits : List �
       (made t hl hr m 2 (length ks) (max L.depth R.depth) (omega arith) f.0 (room_is c _ sizes f.1)
       (λ z. omega arith) (λ z i l. let k : get_or ks i 0 ≤ key_limit = leb-true _ _ (all_at (length ks) _ g.0 i l) in omega arith)))
       p.3
-
--- the plan over two nodes that were read
-module _ (t : Bool) (keys : List ℕ) (l r : Node) (c : Counters) (j : Pair) (s : Sizes) where
-  pub np_muls : t ≡ true → (leb c.nodes j.left || leb c.nodes j.right) ≡ false → muls_ok j (plain_pair l r) ≡ false → Err BadMultiplier ≡ nodes_plan t keys l r c j s
-  np_muls h g k = plan_muls t _ _ _ _ _ h g k
-
-  pub np_unit : t ≡ true → (leb c.nodes j.left || leb c.nodes j.right) ≡ false → muls_ok j (plain_pair l r) ≡ true → (plain_pair l r && eqb j.lmul j.rmul) ≡ true
-      → unit_plan j l r c s ≡ nodes_plan t keys l r c j s
-  np_unit h g k u = plan_unit_is t _ _ _ _ _ h g k u
-
-  pub np_general : t ≡ true → (leb c.nodes j.left || leb c.nodes j.right) ≡ false → muls_ok j (plain_pair l r) ≡ true → (plain_pair l r && eqb j.lmul j.rmul) ≡ false
-      → general_plan keys j l r c s ≡ nodes_plan t keys l r c j s
-  np_general h g k u = plan_general t _ _ _ _ _ h g k u

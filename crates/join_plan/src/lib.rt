@@ -8,8 +8,11 @@ ghost use Rattle.paper.specs.Join.{room_for, muls_ok, fit_plan, unit_plan, gener
 ghost use Rattle.keys.specs.Least.{Mono};
 
 use keys::{Child, Children};
-use paper::{CELL_LIMIT, Counters, DEPTH_LIMIT, KEY_LIMIT, MUL_LIMIT, Node, Pair, Refusal, Sizes};
+use paper::{
+    CELL_LIMIT, Counters, DEPTH_LIMIT, KEY_LIMIT, Kind, MUL_LIMIT, Node, Pair, Refusal, Sizes,
+};
 
+#[tactic(auto, unfolding(paper::specs::Join::room_for))]
 pub fn room(c: Counters, count: usize, s: Sizes) -> bool
     ensures { result ≡ room_for c count s }
 {
@@ -20,6 +23,7 @@ pub fn room(c: Counters, count: usize, s: Sizes) -> bool
         & table::fits_in(c.cells, count, s.marks)
 }
 
+#[tactic(auto, unfolding(paper::specs::Join::muls_ok))]
 pub fn muls_ok(j: Pair, plain: bool) -> bool
     ensures { result ≡ muls_ok j plain }
 {
@@ -31,6 +35,7 @@ pub fn muls_ok(j: Pair, plain: bool) -> bool
 }
 
 // Depth, then room.
+#[tactic(auto, unfolding(paper::specs::Join::fit_plan))]
 fn fit_plan(
     kind: usize,
     j: Pair,
@@ -67,11 +72,12 @@ fn unit_plan(j: Pair, l: Node, r: Node, c: Counters, s: Sizes) -> Result<Node, R
     ensures { result ≡ unit_plan j l r c s }
 {
     let count = rows::con_len(l) + rows::con_len(r);
-    fit_plan(1, j, l, r, c, count, s)
+    fit_plan(Kind::Unit as usize, j, l, r, c, count, s)
 }
 
 // 8 from the two counts, 9 from the two largest values, then the fit. A count of more cells than are left is told by one more
 // than those.
+#[tactic(auto, using(crate::proofs::Plans::fit_min, crate::proofs::Largest::none_counts, crate::proofs::Largest::within_largest), unfolding(paper::specs::Join::keys_plan))]
 fn general_plan(
     keys: &[u32],
     j: Pair,
@@ -105,9 +111,10 @@ fn general_plan(
     }
     let top = CELL_LIMIT - c.cells + 1;
     let count = children.count_keys(keys, top);
-    fit_plan(2, j, l, r, c, count, s)
+    fit_plan(Kind::General as usize, j, l, r, c, count, s)
 }
 
+#[tactic(auto, unfolding(paper::specs::Join::inner_plan, paper::specs::Join::join_plan))]
 pub fn inner_plan(
     nodes: &[u32],
     inputs: &[i32],
@@ -128,7 +135,7 @@ pub fn inner_plan(
     }
     let l = rows::node_at(nodes, j.left);
     let r = rows::node_at(nodes, j.right);
-    let plain = (l.kind != 2) & (r.kind != 2);
+    let plain = !l.is_general() & !r.is_general();
     if !muls_ok(j, plain) {
         return Err(Refusal::BadMultiplier);
     }
