@@ -57,7 +57,7 @@ impl Child {
     }
 
     // The least of best and the sums l + r that are at least a, over the values r of the child.
-    fn least_row(self, keys: &[u32], l: usize, a: usize, best: usize) -> usize
+    pub fn least_row(self, keys: &[u32], l: usize, a: usize, best: usize) -> usize
         requires { l < 2 ^ 48 }
         ensures { result ≡ least_all (con_len self.node) (λ j. l + con_val keys.now self.node self.mul j) a best }
     {
