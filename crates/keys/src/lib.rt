@@ -32,14 +32,14 @@ pub struct Child {
 
 impl Child {
     // How many values there are.
-    fn len(self) -> usize
+    pub fn len(self) -> usize
         ensures { result ≡ con_len self.node }
     {
         rows::con_len(self.node)
     }
 
     // Value j times the multiplier.
-    fn at(self, keys: &[u32], j: usize) -> usize
+    pub fn at(self, keys: &[u32], j: usize) -> usize
         ensures { (result ≡ con_val keys.now self.node self.mul j) × (result < 2 ^ 48) }
     {
         self.mul * rows::value_at(keys, self.node, j)
