@@ -4,7 +4,7 @@ use Rattle.std.specs.Prelude.{Err, Result}
 use mathlib.Core.Path.{◌≡◌, sym, ◌∙◌, subst}
 use mathlib.Core.Bool.{Bool, true, false}
 use mathlib.Core.List.{List, ◌++◌}
-use Prim.Native.Nat.{ℕ, ◌+◌, ◌*◌, ◌/◌, ◌≤◌, ◌<◌, ◌^◌}
+use Prim.Native.Nat.{ℕ, ◌+◌, ◌/◌, ◌≤◌, ◌<◌, ◌^◌}
 use native.Mathlib.Omega.{arith}
 use borrow.Author.Tests.{lt-ltb, le-ltb, eq-eqb, ne_eqb}
 use lib.IntN.{ℤ}
@@ -19,12 +19,11 @@ use Rattle.paper.specs.declared.Counters.{Counters}
 use Rattle.paper.specs.declared.Refusal.TheVariants.{NoSuchOutput, TableFails, WorkShort, NoSuchNode, GeneralNode}
 use Rattle.paper.specs.declared.Demanded.{Demanded}
 use Rattle.facts.specs.Facts.{TableFacts}
-use Rattle.facts.proofs.Facts.{table_facts, used_length, words_fit}
-use Rattle.count.specs.Run.{Fit, Here}
+use Rattle.facts.proofs.Facts.{used_length}
+use Rattle.count.specs.Run.{Here}
 use Rattle.runs.specs.Met.{Met}
 use Rattle.runs.proofs.Meets.{is_2, is_3, is_4, is_5, is_1, is_room}
-use Rattle.runs.specs.Used.{run_of}
-use Rattle.runs.proofs.Used.{fit_of, nodes_length, same_node, back, work_long}
+use Rattle.runs.proofs.Used.{nodes_length, same_node, back, work_long}
 
 module _ (nodes : List ℕ) (inputs : List ℤ) (keys : List ℕ) (lits : List ℤ) (marks : List ℕ) (row : List ℤ) (ints bytes : ℕ) (c : Counters) (id i : ℕ) where
   abbrev Checked : Bool → Type 0
@@ -74,37 +73,20 @@ module _ (nodes : List ℕ) (inputs : List ℤ) (keys : List ℕ) (lits : List �
           met.row_is,
         )
 
-  module _ (ok : Checked true) where
-    facts : TableFacts (node_at nodes) (length nodes / node_words) inputs keys lits marks (length row) c
-    facts = table_facts (node_at nodes) (length nodes / node_words) inputs keys lits marks (length row) c ok
+-- what a run over the parts in use asks
+module _ (nodes : List ℕ) {inputs : List ℤ} {keys : List ℕ} {lits : List ℤ} {marks : List ℕ} {row : ℕ} {c : Counters} (facts : TableFacts (node_at nodes) (length nodes / node_words) inputs keys lits marks row c) where
+  pub here : {id i : ℕ} → id < c.nodes → i < value_count (node_at nodes id) → Here (nodes_used nodes c) id i
+  here {id} h o =
+      let b : id < length (nodes_used nodes c) / node_words = omega (arith, nodes_length nodes facts) in
+      record { below = b; out = rw (same_node nodes facts id b) o }
 
-    pub nodes_lent : c.nodes * node_words ≤ length nodes
-    nodes_lent = words_fit facts.counters
+  pub room : {ints bytes : ℕ} → work_ok ints bytes c ≡ true → (length (cells_used lits c) ≤ ints) × (length (cells_used lits c) ≤ bytes)
+  room h =
+      let e : length (cells_used lits c) ≡ c.cells = used_length c.cells lits facts.lit_row in
+      let w = work_long _ _ c h in
+      (omega arith, omega arith)
 
-    pub inputs_lent : c.inputs ≤ length inputs
-    inputs_lent = facts.input_row
-
-    pub lits_lent : c.cells ≤ length lits
-    lits_lent = facts.lit_row
-
-    pub marks_lent : c.cells ≤ length marks
-    marks_lent = facts.mark_row
-
-    pub fits : length row ≤ 2 ^ 62 → Fit (nodes_used nodes c) (inputs_used inputs c) (cells_used lits c) (cells_used marks c) (run_of c)
-    fits h = fit_of nodes facts h
-
-    pub here : id < c.nodes → i < value_count (node_at nodes id) → Here (nodes_used nodes c) id i
-    here h o =
-        let b : id < length (nodes_used nodes c) / node_words = omega (arith, nodes_length nodes facts) in
-        record { below = b; out = rw (same_node nodes facts id b) o }
-
-    pub room : work_ok ints bytes c ≡ true → (length (cells_used lits c) ≤ ints) × (length (cells_used lits c) ≤ bytes)
-    room h =
-        let e : length (cells_used lits c) ≡ c.cells = used_length c.cells lits lits_lent in
-        let w = work_long ints bytes c h in
-        (omega arith, omega arith)
-
-    pub bounds : (length (cells_used lits c) < 2 ^ 31) × (c.words ≤ length row) × (c.last < 2 ^ 31) × (c.next ≤ c.last + 1)
-    bounds =
-        let e : length (cells_used lits c) ≡ c.cells = used_length c.cells lits lits_lent in
-        (omega (arith, facts.counters.cell_limit_met), facts.counters.word_row, omega (arith, facts.counters.last_high), facts.counters.next_high)
+  pub bounds : (length (cells_used lits c) < 2 ^ 31) × (c.words ≤ row) × (c.last < 2 ^ 31) × (c.next ≤ c.last + 1)
+  bounds =
+      let e : length (cells_used lits c) ≡ c.cells = used_length c.cells lits facts.lit_row in
+      (omega (arith, facts.counters.cell_limit_met), facts.counters.word_row, omega (arith, facts.counters.last_high), facts.counters.next_high)
