@@ -8,8 +8,9 @@ ghost use Rattle.grow.specs.Small.{Small};
 
 pub use choose::room_for_node;
 use choose::{dummy_plan, leaf_plan};
-use paper::{Added, Counters, NODE_WORDS, Node, Refusal};
+use paper::{Added, Counters, Kind, NODE_WORDS, Node, Refusal};
 
+#[tactic(auto, unfolding(paper::specs::Grow::fresh_of))]
 pub fn fresh(first: usize, last: usize) -> Result<Counters, Refusal>
     ensures { result ≡ fresh_of first last }
 {
@@ -28,6 +29,7 @@ pub fn fresh(first: usize, last: usize) -> Result<Counters, Refusal>
     }
 }
 
+#[tactic(auto, unfolding(paper::specs::Grow::put_node))]
 pub fn put_node(nodes: &mut [u32], id: usize, n: Node)
     requires { (id * node_words + node_words ≤ length nodes.old) × Small n }
     ensures { nodes.new ≡ put_node nodes.old id n }
@@ -47,7 +49,7 @@ pub fn leaf_node(place: usize) -> Node
     ensures { result ≡ leaf_node place }
 {
     Node {
-        kind: 0,
+        kind: Kind::Leaf as usize,
         left: 0,
         lmul: 0,
         right: 0,
@@ -62,7 +64,7 @@ pub fn dummy_node() -> Node
     ensures { result ≡ dummy_node }
 {
     Node {
-        kind: 3,
+        kind: Kind::Dummy as usize,
         left: 0,
         lmul: 0,
         right: 0,
@@ -73,6 +75,7 @@ pub fn dummy_node() -> Node
     }
 }
 
+#[tactic(auto, using(crate::proofs::Choose::leaf_rests))]
 pub fn leaf(
     nodes: &mut [u32],
     inputs: &mut [i32],
@@ -104,6 +107,7 @@ pub fn leaf(
     }
 }
 
+#[tactic(auto, using(crate::proofs::Choose::dummy_rests))]
 pub fn dummy(
     nodes: &mut [u32],
     inputs: &[i32],

@@ -10,7 +10,7 @@ ghost use Rattle.join_plan.specs.Ready.{RowReady};
 
 use join_plan::inner_plan;
 use keys::{Child, Children};
-use paper::{Added, Counters, Node, Pair, Refusal};
+use paper::{Added, Counters, Kind, Node, Pair, Refusal};
 
 fn write_count(keys: &mut [u32], at: usize, count: usize)
     requires { (at + count ≤ length keys.old) × (count ≤ cell_limit) }
@@ -21,7 +21,8 @@ fn write_count(keys: &mut [u32], at: usize, count: usize)
     }
 }
 
-// A row with `zero` in count places from `at` on.
+// A row with `zero` in count places from `at` on. `fill` does not serve here: for any type it asks for a clone that cannot fail, which `Copy`
+// does not promise.
 fn clear<T: Copy>(row: &mut [T], at: usize, count: usize, zero: T)
     requires { at + count ≤ length row.old }
     ensures { row.new ≡ paste row.old at (replicate count zero) count }
@@ -36,11 +37,8 @@ fn write_row(nodes: &[u32], keys: &mut [u32], n: Node)
     requires { RowReady nodes.now keys.old n }
     ensures { keys.new ≡ paste keys.old n.first (new_keys nodes.now keys.old n) n.count }
 {
-    let first = n.first;
-    let count = n.count;
-    let k = n.kind;
-    if k == 1 {
-        write_count(keys, first, count);
+    if n.kind_of() == Kind::Unit {
+        write_count(keys, n.first, n.count);
     } else {
         let l = rows::node_at(nodes, n.left);
         let r = rows::node_at(nodes, n.right);
@@ -54,7 +52,7 @@ fn write_row(nodes: &[u32], keys: &mut [u32], n: Node)
                 mul: n.rmul,
             },
         };
-        children.write_keys(keys, first, count);
+        children.write_keys(keys, n.first, n.count);
     }
 }
 
