@@ -85,7 +85,8 @@ fn own_clauses(
     clauses.words
 }
 
-// What a demand writes: the literals and marks of the cells, the clause row, and the two counters.
+// What a demand writes: the literals and marks of the cells, the clause row, and the two counters. Where a row is read for a call, or two
+// go to one, each is lent by a name of its own: that is the form in which the check follows them.
 #[derive(Drop)]
 pub struct Encoder<'a> {
     pub lits: &'a mut [i32],
