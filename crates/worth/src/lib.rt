@@ -7,9 +7,10 @@ ghost use Rattle.paper.specs.Rows.{node_at};
 ghost use Rattle.paper.specs.Upkeep.{byte_at, truth_of, worth_of, value_of, assigned_ok};
 ghost use Rattle.worth.specs.Value.{Ready, Sound};
 
-use paper::Node;
+use paper::{Kind, Node};
 
 // The byte of variable v.
+#[tactic(auto, unfolding(paper::specs::Upkeep::byte_at))]
 fn byte_at(assign: &[u8], v: usize) -> usize
     ensures { result ≡ byte_at assign.now v }
 {
@@ -25,6 +26,7 @@ fn byte_at(assign: &[u8], v: usize) -> usize
 }
 
 // 1 where the literal is true, else 0.
+#[tactic(auto, unfolding(paper::specs::Upkeep::truth_of))]
 fn truth(assign: &[u8], lit: i32) -> usize
     ensures { result ≡ truth_of assign.now lit }
 {
@@ -49,21 +51,18 @@ fn from_children(work: &[i32], n: Node) -> usize
     n.lmul * l + n.rmul * r
 }
 
+#[tactic(auto, unfolding(paper::specs::Upkeep::worth_of))]
 fn node_value(nodes: &[u32], inputs: &[i32], assign: &[u8], work: &[i32], i: usize) -> usize
     requires { Ready nodes.now (length inputs.now) (length work.now) i }
     ensures { result ≡ worth_of (node_at nodes.now i) inputs.now assign.now
         (nat_abs (get_or work.now (node_at nodes.now i).left (pos 0))) (nat_abs (get_or work.now (node_at nodes.now i).right (pos 0))) }
 {
     let n = rows::node_at(nodes, i);
-    let k = n.kind;
-    if k == 0 {
-        let at = n.first;
-        return truth(assign, inputs[at]);
+    match n.kind_of() {
+        Kind::Leaf => truth(assign, inputs[n.first]),
+        Kind::Dummy => 0,
+        _ => from_children(work, n),
     }
-    if k == 3 {
-        return 0;
-    }
-    from_children(work, n)
 }
 
 // The values of the nodes 0 to id, each after its children; the answer is the last.

@@ -3,33 +3,32 @@ use native.Mathlib.Omega.{arith}
 use mathlib.Core.Path.{sym, ap, ◌∙◌}
 use lib.ListN.{length}
 use lib.Dec.{eqb}
-use borrow.Author.Tests.{eq-eqb, ne_eqb}
 use Rattle.paper.specs.declared.Node.{Node}
 use Rattle.reserve.proofs.Give.{kids, room_left, room_right, room_cells, ran_node, ran_seen, ran_none, next_low, shape_row, places_leaf, places_dummy}
 use Rattle.reserve.proofs.+reserve_node.Goals as goal
 
-pub returns-then-seen-ne0 : goal.returns-then-seen-ne0
-returns-then-seen-ne0 t c =
-    ran_seen c.args.nodes.now c.args.count c.args.id c.args.lits.now c.args.flags.now c.args.next c.requires.id_lt_count.0 c.if-seen-ne0.true c.requires.closed
+pub returns-then-flags-id-ne0 : goal.returns-then-flags-id-ne0
+returns-then-flags-id-ne0 t c =
+    ran_seen c.args.nodes.now c.args.count c.args.id c.args.lits.now c.args.flags.now c.args.next c.requires.id_lt_count.0 c.if-flags-id-ne0.true c.requires.closed
 
-pub returns-then-k-eq0 : goal.returns-then-k-eq0
-returns-then-k-eq0 t c =
+pub returns-then-is_leaf : goal.returns-then-is_leaf
+returns-then-is_leaf t c =
     let nd = c.node_at-n in
-    let e = ap (λ (m : Node). eqb m.kind 0) (sym nd.ensures) ∙ eq-eqb _ _ c.if-k-eq0.true in
+    let e = ap (λ (m : Node). eqb m.kind 0) (sym nd.ensures) ∙ sym c.is_leaf.ensures ∙ c.if-is_leaf.true in
     ran_none c.args.nodes.now c.args.count c.args.id c.args.lits.now c.args.flags.now c.args.next (λ f. places_leaf c.args.nodes.now f c.args.id e) c.requires.closed
 
-pub returns-then-k-eq3 : goal.returns-then-k-eq3
-returns-then-k-eq3 t c =
+pub returns-then-is_dummy : goal.returns-then-is_dummy
+returns-then-is_dummy t c =
     let nd = c.node_at-n in
-    let d = ap (λ (m : Node). eqb m.kind 0) (sym nd.ensures) ∙ ne_eqb _ _ c.if-k-eq0.false in
-    let e = ap (λ (m : Node). eqb m.kind 3) (sym nd.ensures) ∙ eq-eqb _ _ c.if-k-eq3.true in
+    let d = ap (λ (m : Node). eqb m.kind 0) (sym nd.ensures) ∙ sym c.is_leaf.ensures ∙ c.if-is_leaf.false in
+    let e = ap (λ (m : Node). eqb m.kind 3) (sym nd.ensures) ∙ sym c.is_dummy.ensures ∙ c.if-is_dummy.true in
     ran_none c.args.nodes.now c.args.count c.args.id c.args.lits.now c.args.flags.now c.args.next (λ f. places_dummy c.args.nodes.now f c.args.id d e) c.requires.closed
 
 pub reserve_node-a-requires : goal.reserve_node-a-requires
 reserve_node-a-requires t c =
     let nd = c.node_at-n in
-    let p = ne_eqb nd.result.kind 0 c.if-k-eq0.false in
-    let q = ne_eqb nd.result.kind 3 c.if-k-eq3.false in
+    let p = sym c.is_leaf.ensures ∙ c.if-is_leaf.false in
+    let q = sym c.is_dummy.ensures ∙ c.if-is_dummy.false in
     let k = kids c.args.nodes.now c.args.id nd.result nd.ensures p q c.args.count (length c.args.lits.now) c.requires.shape c.requires.id_lt_count.0 in (
       omega (arith, c.decreases, k.left),
       (
@@ -47,8 +46,8 @@ reserve_node-a-requires t c =
 pub reserve_node-b-requires : goal.reserve_node-b-requires
 reserve_node-b-requires t c =
     let nd = c.node_at-n in
-    let p = ne_eqb nd.result.kind 0 c.if-k-eq0.false in
-    let q = ne_eqb nd.result.kind 3 c.if-k-eq3.false in
+    let p = sym c.is_leaf.ensures ∙ c.if-is_leaf.false in
+    let q = sym c.is_dummy.ensures ∙ c.if-is_dummy.false in
     let k = kids c.args.nodes.now c.args.id nd.result nd.ensures p q c.args.count (length c.args.lits.now) c.requires.shape c.requires.id_lt_count.0 in
     let one = c.reserve_node-a in (
       omega (arith, c.decreases, k.right),
@@ -67,8 +66,8 @@ reserve_node-b-requires t c =
 pub fill-d-requires : goal.fill-d-requires
 fill-d-requires t c =
     let nd = c.node_at-n in
-    let p = ne_eqb nd.result.kind 0 c.if-k-eq0.false in
-    let q = ne_eqb nd.result.kind 3 c.if-k-eq3.false in
+    let p = sym c.is_leaf.ensures ∙ c.if-is_leaf.false in
+    let q = sym c.is_dummy.ensures ∙ c.if-is_dummy.false in
     let k = kids c.args.nodes.now c.args.id nd.result nd.ensures p q c.args.count (length c.args.lits.now) c.requires.shape c.requires.id_lt_count.0 in
     let one = c.reserve_node-a in
     let two = c.reserve_node-b in
@@ -77,8 +76,8 @@ fill-d-requires t c =
 pub returns : goal.returns
 returns t c =
     let nd = c.node_at-n in
-    let p = ne_eqb nd.result.kind 0 c.if-k-eq0.false in
-    let q = ne_eqb nd.result.kind 3 c.if-k-eq3.false in
+    let p = sym c.is_leaf.ensures ∙ c.if-is_leaf.false in
+    let q = sym c.is_dummy.ensures ∙ c.if-is_dummy.false in
     let k = kids c.args.nodes.now c.args.id nd.result nd.ensures p q c.args.count (length c.args.lits.now) c.requires.shape c.requires.id_lt_count.0 in
     let one = c.reserve_node-a in
     let two = c.reserve_node-b in

@@ -1,5 +1,5 @@
 use Prim.Native.Nat.{ℕ}
-use Rattle.std.proofs.Common.{rules, ap, ◌∙◌, length, get_or, arith, Bool, leb, take}
+use Rattle.std.proofs.Common.{rules, ap, ◌∙◌, get_or, arith, Bool, leb, take}
 use Rattle.std.proofs.lemmas.Iterator.{YieldsList-from_slice}
 use Rattle.std.proofs.lemmas.Iterator.Search.{all_from_yields_List}
 use Rattle.std.proofs.lemmas.List.{length-take-le, get_or-take}
