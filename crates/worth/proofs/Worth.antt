@@ -10,14 +10,11 @@ use lib.Dec.{eqb}
 use lib.IntN.{ℤ, pos, nat_abs}
 use lib.Seq.{get_or-set_same, get_or-set_other}
 use borrow.Author.Tests.{eq-eqb, ne_eqb}
-use mir.Syntax.{w32}
-use mir.Val.{SFits, to_z, of_z}
-use mir.Facts.{to_z-of_z}
 use Rattle.paper.specs.Below.{side}
-use Rattle.paper.specs.Rows.{node_at, is_neg}
-use Rattle.paper.specs.Upkeep.{byte_at, truth_of, worth_of, value_of}
+use Rattle.paper.specs.Rows.{node_at}
+use Rattle.paper.specs.Upkeep.{truth_of, worth_of, value_of}
 use Rattle.paper.specs.declared.Node.{Node}
-use Rattle.worth.specs.Value.{Sound}
+use Rattle.worth.specs.Value.{Ready, Sound}
 
 pub value_step : (ns : List ℕ) (ins : List ℤ) (a : List ℕ) (f i : ℕ) → i < f
     → value_of f ns ins a i ≡ worth_of (node_at ns i) ins a (value_of (f - 1) ns ins a (node_at ns i).left) (value_of (f - 1) ns ins a (node_at ns i).right)
@@ -49,19 +46,11 @@ worth_same n ins a l r k s p q = go (eqb n.kind 0) refl (eqb n.kind 3) refl
     go false e true d = refl
     go false e false d = ap₂ (λ (x : ℕ) (y : ℕ). n.lmul * x + n.rmul * y) (p e d) (q e d)
 
-pub truth_at : (a : List ℕ) (x : ℤ) (b v : ℕ) (neg : Bool) → v ≡ nat_abs x → b ≡ byte_at a v → neg ≡ is_neg x
-    → (t n : Bool) → eqb b 1 ≡ t → neg ≡ n → cond t (cond n 0 1) (cond n 1 0) ≡ truth_of a x
-unfolding truth_of
-truth_at a x b v neg ev eb en t n et e_n = rw (← ev, ← eb, ← en, et, e_n)
-
--- a signed number that a local held
-pub var_is : (z : ℤ) (r : ℕ) → SFits w32 z → r ≡ nat_abs (to_z w32 (of_z w32 z)) → r ≡ nat_abs z
-var_is z r f e = e ∙ ap nat_abs (to_z-of_z {w = w32} {z = z} f)
-
-pub neg_is : (z : ℤ) (r : Bool) → SFits w32 z → r ≡ is_neg (to_z w32 (of_z w32 z)) → r ≡ is_neg z
-neg_is z r f e = e ∙ ap is_neg (to_z-of_z {w = w32} {z = z} f)
-
 -- ---- the loop
+
+pub ready_more : (ns : List ℕ) (k limit i : ℕ) → Ready ns k i i → i ≤ limit → Ready ns k limit i
+ready_more ns k limit i r h =
+    record { leaf = r.leaf; left = λ p q. let g = r.left p q in omega (arith, g); right = λ p q. let g = r.right p q in omega (arith, g); lmul = r.lmul; rmul = r.rmul }
 
 -- the rows's first i places have the values of the nodes before i
 abbrev pub Held : List ℕ → List ℤ → List ℕ → List ℤ → ℕ → Type 0

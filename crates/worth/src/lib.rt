@@ -10,6 +10,7 @@ ghost use Rattle.worth.specs.Value.{Ready, Sound};
 use paper::{Kind, Node};
 
 // The byte of variable v.
+#[tactic(auto, unfolding(paper::specs::Upkeep::byte_at))]
 fn byte_at(assign: &[u8], v: usize) -> usize
     ensures { result ≡ byte_at assign.now v }
 {
@@ -25,6 +26,7 @@ fn byte_at(assign: &[u8], v: usize) -> usize
 }
 
 // 1 where the literal is true, else 0.
+#[tactic(auto, unfolding(paper::specs::Upkeep::truth_of))]
 fn truth(assign: &[u8], lit: i32) -> usize
     ensures { result ≡ truth_of assign.now lit }
 {
@@ -49,6 +51,7 @@ fn from_children(work: &[i32], n: Node) -> usize
     n.lmul * l + n.rmul * r
 }
 
+#[tactic(auto, unfolding(paper::specs::Upkeep::worth_of))]
 fn node_value(nodes: &[u32], inputs: &[i32], assign: &[u8], work: &[i32], i: usize) -> usize
     requires { Ready nodes.now (length inputs.now) (length work.now) i }
     ensures { result ≡ worth_of (node_at nodes.now i) inputs.now assign.now

@@ -2,25 +2,26 @@ use Prim.Native.Nat.{◌+◌}
 use native.Mathlib.Omega.{arith}
 use mathlib.Core.Path.{sym, ap, ◌∙◌}
 use lib.ListN.{length}
-use Rattle.paper.specs.Rows.{is_leaf, is_dummy}
+use lib.Dec.{eqb}
+use Rattle.paper.specs.declared.Node.{Node}
 use Rattle.reserve.proofs.Give.{kids, room_left, room_right, room_cells, ran_node, ran_seen, ran_none, next_low, shape_row, places_leaf, places_dummy}
 use Rattle.reserve.proofs.+reserve_node.Goals as goal
 
-pub returns-then-seen-ne0 : goal.returns-then-seen-ne0
-returns-then-seen-ne0 t c =
-    ran_seen c.args.nodes.now c.args.count c.args.id c.args.lits.now c.args.flags.now c.args.next c.requires.id_lt_count.0 c.if-seen-ne0.true c.requires.closed
+pub returns-then-flags-id-ne0 : goal.returns-then-flags-id-ne0
+returns-then-flags-id-ne0 t c =
+    ran_seen c.args.nodes.now c.args.count c.args.id c.args.lits.now c.args.flags.now c.args.next c.requires.id_lt_count.0 c.if-flags-id-ne0.true c.requires.closed
 
 pub returns-then-is_leaf : goal.returns-then-is_leaf
 returns-then-is_leaf t c =
     let nd = c.node_at-n in
-    let e = ap is_leaf (sym nd.ensures) ∙ sym c.is_leaf.ensures ∙ c.if-is_leaf.true in
+    let e = ap (λ (m : Node). eqb m.kind 0) (sym nd.ensures) ∙ sym c.is_leaf.ensures ∙ c.if-is_leaf.true in
     ran_none c.args.nodes.now c.args.count c.args.id c.args.lits.now c.args.flags.now c.args.next (λ f. places_leaf c.args.nodes.now f c.args.id e) c.requires.closed
 
 pub returns-then-is_dummy : goal.returns-then-is_dummy
 returns-then-is_dummy t c =
     let nd = c.node_at-n in
-    let d = ap is_leaf (sym nd.ensures) ∙ sym c.is_leaf.ensures ∙ c.if-is_leaf.false in
-    let e = ap is_dummy (sym nd.ensures) ∙ sym c.is_dummy.ensures ∙ c.if-is_dummy.true in
+    let d = ap (λ (m : Node). eqb m.kind 0) (sym nd.ensures) ∙ sym c.is_leaf.ensures ∙ c.if-is_leaf.false in
+    let e = ap (λ (m : Node). eqb m.kind 3) (sym nd.ensures) ∙ sym c.is_dummy.ensures ∙ c.if-is_dummy.true in
     ran_none c.args.nodes.now c.args.count c.args.id c.args.lits.now c.args.flags.now c.args.next (λ f. places_dummy c.args.nodes.now f c.args.id d e) c.requires.closed
 
 pub reserve_node-a-requires : goal.reserve_node-a-requires
