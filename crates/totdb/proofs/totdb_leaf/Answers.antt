@@ -4,4 +4,4 @@ use Rattle.totdb.proofs.Telling.{leaf_told}
 use Rattle.totdb.proofs.totdb_leaf.Goals as goal
 
 pub returns : goal.returns
-returns c = leaf_told _ _ _ _ _ _ _ _ _ _ _ _ _ _ _ _ c.counters_of-c.ensures (to_z-of_z w32 c.args.x c.ranges.x) c.leaf-said.ensures c.say_added.ensures
+returns c = leaf_told _ _ _ _ _ _ _ _ _ _ _ _ _ _ _ _ c.from-c.ensures (to_z-of_z w32 c.args.x c.ranges.x) c.leaf-said.ensures c.say_added.ensures

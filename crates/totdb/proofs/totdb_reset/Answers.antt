@@ -2,4 +2,4 @@ use Rattle.totdb.proofs.Telling.{reset_told}
 use Rattle.totdb.proofs.totdb_reset.Goals as goal
 
 pub returns : goal.returns
-returns c = reset_told _ _ _ _ _ _ _ _ _ _ _ _ c.counters_of-c.ensures c.reset-said.ensures c.say_kept.ensures
+returns c = reset_told _ _ _ _ _ _ _ _ _ _ _ _ c.from-c.ensures c.reset-said.ensures c.say_kept.ensures
