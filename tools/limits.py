@@ -4,7 +4,7 @@
     limits.py [ROOT]
 
 Reads the limits of the definitions (crates/paper/specs/Limits.antt) and compares with them the code, the C header, the Rust
-binding, tools/paper.py, the rows of the programs `replay` and `cases`, the bound of multipliers in crates/find, and sentences
+binding, tools/paper.py, the bound of multipliers in crates/find, and sentences
 that name a limit. Prints each place where the number differs or is not found, and exits with 1 if there is one.
 """
 import os
@@ -47,8 +47,7 @@ def sentences(limit):
 
 def powers(limit):
     """Bounds that stand as powers of two."""
-    for file in ("crates/find/src/lib.rt", "crates/find/specs/Ways.antt"):
-        yield file, r"(?:\(m|lmul|rmul) < 2 \^ ([0-9]+)", limit["mul"] + 1
+    yield "crates/find/specs/Ways.antt", r"[lr]mul < 2 \^ ([0-9]+)", limit["mul"] + 1
 
 
 def main():
