@@ -7,7 +7,7 @@ ghost use Rattle.paper.specs.Rows.{node_at};
 ghost use Rattle.paper.specs.Plain.{mark_of, mark_byte, has_if, has_only, missing_of, if_span, only_span, no_span, ranges_of, plan_two, plan_unit};
 
 use paper::{Mark, Node, Precond, Ranges, Span, Todo, Want};
-use rows::{con_len, min, node_at};
+use rows::{con_len, node_at};
 
 // "marks (0 none, 1 If, 2 OnlyIf, 3 both)"
 #[tactic(auto, unfolding(paper::specs::Plain::mark_of))]
@@ -70,8 +70,8 @@ fn if_span(a: usize, b: usize, i: usize) -> Span
     requires { i < 2 ^ 63 }
     ensures { result ≡ if_span a b i }
 {
-    let x = i + 1 - min(b, i + 1);
-    let to = min(a, i + 1);
+    let x = i + 1 - b.min(i + 1);
+    let to = a.min(i + 1);
     if x == 0 {
         return Span { from: 0, to };
     }
@@ -84,8 +84,8 @@ fn only_span(a: usize, b: usize, i: usize) -> Span
     requires { i < 2 ^ 63 }
     ensures { result ≡ only_span a b i }
 {
-    let from = i - min(b, i);
-    let to = min(a, i + 1);
+    let from = i - b.min(i);
+    let to = a.min(i + 1);
     Span { from, to }
 }
 

@@ -47,7 +47,7 @@ fn fit_plan(
 ) -> Result<Node, Refusal>
     ensures { result ≡ fit_plan kind j l r c count s }
 {
-    let d = rows::larger(l.depth, r.depth);
+    let d = l.depth.max(r.depth);
     if DEPTH_LIMIT <= d {
         return Err(Refusal::TooDeep);
     }

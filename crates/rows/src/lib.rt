@@ -9,24 +9,6 @@ ghost use Rattle.paper.specs.Grow.{same_lit};
 
 use paper::{NODE_WORDS, Node};
 
-pub fn min(a: usize, b: usize) -> usize
-    ensures { result ≡ Prim.Native.Nat.min a b }
-{
-    a.min(b)
-}
-
-pub fn larger(a: usize, b: usize) -> usize
-    ensures { result ≡ max a b }
-{
-    a.max(b)
-}
-
-pub fn wide(x: u32) -> usize
-    ensures { result ≡ x }
-{
-    x as usize
-}
-
 // The word at base + i, or 0 past the end; the sum is made only where it is below the length.
 pub fn word_from(row: &[u32], base: usize, i: usize) -> usize
     ensures { (result ≡ word_from row.now base i) × (result < 4294967296) }
