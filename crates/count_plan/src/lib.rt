@@ -22,18 +22,20 @@ fn mark_of(m: u8) -> Mark
     }
 }
 
-#[tactic(auto, unfolding(paper::specs::Plain::has_if))]
-fn has_if(m: Mark) -> bool
-    ensures { result ≡ has_if m }
+// The directions that have been asked for.
+#[tactic(auto, unfolding(paper::specs::Plain::has_if, paper::specs::Plain::has_only))]
+fn asked(m: Mark) -> Want
+    ensures { (result.fi ≡ has_if m) × (result.fo ≡ has_only m) }
 {
-    matches!(m, Mark::MarkedIf | Mark::MarkedBoth)
-}
-
-#[tactic(auto, unfolding(paper::specs::Plain::has_only))]
-fn has_only(m: Mark) -> bool
-    ensures { result ≡ has_only m }
-{
-    matches!(m, Mark::MarkedOnlyIf | Mark::MarkedBoth)
+    match m {
+        Mark::Unmarked => Want {
+            fi: false,
+            fo: false,
+        },
+        Mark::MarkedIf => Want::IF,
+        Mark::MarkedOnlyIf => Want::ONLY_IF,
+        Mark::MarkedBoth => Want::BOTH,
+    }
 }
 
 #[tactic(auto, unfolding(paper::specs::Plain::mark_byte))]
@@ -53,13 +55,11 @@ fn mark_byte(i: bool, o: bool) -> u8
 pub fn missing(m: u8, want: Want) -> Todo
     ensures { result ≡ missing_of m want }
 {
-    let old = mark_of(m);
-    let i = has_if(old);
-    let o = has_only(old);
-    let mark = mark_byte(want.fi | i, want.fo | o);
+    let old = asked(mark_of(m));
+    let mark = mark_byte(want.fi | old.fi, want.fo | old.fo);
     let want = Want {
-        fi: want.fi & !i,
-        fo: want.fo & !o,
+        fi: want.fi & !old.fi,
+        fo: want.fo & !old.fo,
     };
     Todo { want, mark }
 }

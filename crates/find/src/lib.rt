@@ -44,6 +44,9 @@ pub fn find_key(keys: &[u32], first: usize, count: usize, v: usize) -> Option<us
     None
 }
 
+// What the keys must be, each lookup asks itself (`Sorted`): crate sum and the crates above it ask for single outputs of a tree's nodes, and a
+// struct of the row and a node would be made anew at each question.
+
 // The output of value v: a leaf and a unit have the values from 1 on, a general node its keys.
 #[tactic(auto, unfolding(paper::specs::Weighted::output_of))]
 pub fn output_of(keys: &[u32], n: Node, v: usize) -> Option<usize>
