@@ -68,24 +68,17 @@ fn both_len(nodes: &[u32], left: usize) -> usize {
     if 65536 < left {
         return 0;
     }
-    let a = con_len(node_at(nodes, left));
-    let b = con_len(node_at(nodes, left + 1));
-    if a < 65536 {
-        if b < 65536 {
-            return a + b;
-        }
-    }
-    0
+    con_len(node_at(nodes, left)).saturating_add(con_len(node_at(nodes, left + 1)))
 }
 
 fn put_units(nodes: &mut [u32]) {
-    let mut first = 0;
+    let mut first: usize = 0;
     for k in 4096..8191 {
         let left = (k - 4096) * 2;
         let count = both_len(nodes, left);
         put_unit(nodes, k, left);
         put_cells(nodes, k, first, count);
-        first = more(first, count);
+        first = first.saturating_add(count);
     }
 }
 
@@ -146,19 +139,6 @@ fn demand_one(tree: &Tree, encoder: &mut Encoder, i: usize, want: Want)
     encoder.define_unweighted_rec(tree, 8190, i, want);
 }
 
-fn more(words: usize, n: usize) -> usize {
-    if words < 4611686018427387904 {
-        if n <= 4611686018427387904 {
-            return words + n;
-        }
-    }
-    words
-}
-
-fn less(words: usize, n: usize) -> usize {
-    if n <= words { words - n } else { 0 }
-}
-
 // Where the next demand's words begin: in earnest behind the last one's, or at the row's start again where they might not fit;
 // dry at the row's end.
 fn place(words: usize, dry: bool) -> usize
@@ -183,11 +163,11 @@ fn demand_all(tree: &Tree, encoder: &mut Encoder, want: Want, dry: bool, count: 
     if !ready(tree, lits, marks) {
         return 1;
     }
-    let mut words = 0;
+    let mut words: usize = 0;
     for i in 0..count {
         let at = encoder.run.words;
         demand_one(tree, encoder, i, want);
-        words = more(words, less(encoder.run.words, at));
+        words = words.saturating_add(encoder.run.words.saturating_sub(at));
         encoder.run.words = place(encoder.run.words, dry);
     }
     words

@@ -17,6 +17,7 @@ ghost use Rattle.sum.specs.Ways.{Generals};
 use count::Encoder;
 use paper::{Added, Counters, Pair, Refusal, Run, Tree};
 use rows::{con_len, node_at};
+use std::ops::Range;
 use sum::weigh;
 use sums::define_weighted;
 use table::table_ok;
@@ -37,27 +38,21 @@ struct Rows<'a> {
 
 // ---- the table
 
+// The counters after a call that adds a node; those before where it is refused.
 fn after(a: Result<Added, Refusal>, c: Counters) -> Counters {
-    match a {
-        Ok(done) => done.counters,
-        Err(_) => c,
-    }
+    a.map_or(c, |done| done.counters)
 }
 
 fn start() -> Counters {
-    let b = grow::fresh(2, 100000);
-    match b {
-        Ok(c) => c,
-        Err(_) => Counters {
-            first: 0,
-            next: 0,
-            last: 0,
-            nodes: 0,
-            inputs: 0,
-            cells: 0,
-            words: 0,
-        },
-    }
+    grow::fresh(2, 100000).unwrap_or(Counters {
+        first: 0,
+        next: 0,
+        last: 0,
+        nodes: 0,
+        inputs: 0,
+        cells: 0,
+        words: 0,
+    })
 }
 
 impl<'a> Rows<'a> {
@@ -108,17 +103,13 @@ impl<'a> Rows<'a> {
 
 // ---- the public call
 
-fn less(words: usize, n: usize) -> usize {
-    if n <= words { words - n } else { 0 }
-}
-
 fn with_words(c: Counters, words: usize) -> Counters {
     Counters { words, ..c }
 }
 
 fn put_mark(marks: &mut [u8], at: usize, m: u8) {
-    if at < marks.len() {
-        marks[at] = m;
+    if let Some(mark) = marks.get_mut(at) {
+        *mark = m;
     }
 }
 
@@ -137,7 +128,7 @@ impl<'a> Rows<'a> {
         let n = node_at(self.nodes, id);
         if n.first < 65536 {
             if v < 65536 {
-                return less(n.first + v, 1);
+                return (n.first + v).saturating_sub(1);
             }
         }
         0
@@ -155,10 +146,7 @@ impl<'a> Rows<'a> {
         let r = define_weighted(
             nodes, inputs, keys, lits, marks, clauses, ints, bytes, c, id, v,
         );
-        match r {
-            Ok(done) => done.counters,
-            Err(_) => c,
-        }
+        r.map_or(c, |done| done.counters)
     }
 
     // The same demand n times, its mark and its words taken back before each.
@@ -207,7 +195,7 @@ fn weighed(tree: &Tree, encoder: &mut Encoder, id: usize, y: usize, at: usize, n
         unmark(encoder.marks, at, y);
         encoder.run.words = from;
         weigh_one(tree, encoder, id, y);
-        words = less(encoder.run.words, from);
+        words = encoder.run.words.saturating_sub(from);
     }
     words
 }
@@ -255,28 +243,18 @@ fn in_use(
 
 // ---- the table check
 
-fn bit(i: usize) -> u8 {
-    if i % 2 == 0 { 0 } else { 1 }
-}
-
-fn one(b: bool) -> usize
-    ensures { result ≤ 1 }
-{
-    if b { 1 } else { 0 }
-}
-
 impl<'a> Rows<'a> {
     // How many of n checks pass. A mark past those in use is changed each time, so that no check is left out.
     fn checks(&mut self, c: Counters, n: usize) -> usize {
         let mut ok = 0;
         for i in 0..n {
-            put_mark(self.marks, 8191, bit(i));
+            put_mark(self.marks, 8191, (i % 2) as u8);
             let nodes = &mut *self.nodes;
             let inputs = &mut *self.inputs;
             let keys = &mut *self.keys;
             let lits = &mut *self.lits;
             let marks = &mut *self.marks;
-            ok += one(table_ok(nodes, inputs, keys, lits, marks, 16384, c));
+            ok += usize::from(table_ok(nodes, inputs, keys, lits, marks, 16384, c));
         }
         ok
     }
@@ -284,25 +262,13 @@ impl<'a> Rows<'a> {
 
 // ---- writing
 
-// A clause ends at this word.
-fn end_at(row: &[i32], k: usize) -> usize
-    ensures { result ≤ 1 }
-{
-    if k < row.len() {
-        if row[k] == 0 {
-            return 1;
-        }
-    }
-    0
-}
-
-// How many clauses the words from one place to another hold.
+// How many clauses the words from one place to another hold: each ends with a 0.
 fn clauses_in(row: &[i32], from: usize, to: usize) -> usize {
-    let mut n = 0;
-    for k in from..to {
-        n += end_at(row, k);
-    }
-    n
+    row.iter()
+        .take(to)
+        .skip(from)
+        .filter(|word| **word == 0)
+        .count()
 }
 
 fn say_number(what: &[u8], n: usize) {
@@ -312,7 +278,7 @@ fn say_number(what: &[u8], n: usize) {
 
 fn say_demand(clauses: &[i32], v: usize, from: usize, to: usize) {
     say_number(b"value ", v);
-    say_number(b": words ", less(to, from));
+    say_number(b": words ", to.saturating_sub(from));
     say_number(b", clauses ", clauses_in(clauses, from, to));
     io::write_all(1, b"\n");
 }
@@ -327,7 +293,7 @@ fn say_line(what: &[u8], n: usize) {
 impl<'a> Rows<'a> {
     fn called(&mut self, c: Counters, id: usize, v: usize, n: usize) {
         let now = self.calls(c, id, v, n);
-        say_line(b"  the call: ", less(now.words, c.words));
+        say_line(b"  the call: ", now.words.saturating_sub(c.words));
     }
 
     // The recursion alone: its words from the place given on.
@@ -368,10 +334,9 @@ impl<'a> Rows<'a> {
         now
     }
 
-    // The letters from one to another.
-    fn values(&mut self, c: Counters, from: u8, to: u8, what: u8, n: usize) {
+    fn values(&mut self, c: Counters, letters: Range<u8>, what: u8, n: usize) {
         let mut now = c;
-        for which in from..to {
+        for which in letters {
             now = self.value(now, node_of(which), value_of(which), what, n);
         }
     }
@@ -381,7 +346,7 @@ impl<'a> Rows<'a> {
         let c = self.low();
         let c = self.high(c);
         let d = self.call(c, 7, 1024);
-        self.values(with_words(d, 0), first_of(which), end_of(which), what, n);
+        self.values(with_words(d, 0), letters(which), what, n);
     }
 }
 
@@ -400,22 +365,12 @@ fn value_of(which: u8) -> usize {
     }
 }
 
-fn first_of(which: u8) -> u8 {
-    if which < b'g' {
-        if b'a' <= which {
-            return which;
-        }
+// The letters that are asked for: one, or all.
+fn letters(which: u8) -> Range<u8> {
+    match which {
+        b'a'..=b'f' => which..which + 1,
+        _ => b'a'..b'g',
     }
-    b'a'
-}
-
-fn end_of(which: u8) -> u8 {
-    if which < b'g' {
-        if b'a' <= which {
-            return which + 1;
-        }
-    }
-    b'g'
 }
 
 fn times(digit: u8) -> usize {
