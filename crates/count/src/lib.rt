@@ -14,7 +14,7 @@ ghost use Rattle.count.specs.Encoding.{state_of, SameRows, FitFor, DoneBy, RanBy
 
 use clause::ClauseRow;
 use count_plan::{missing, precond_unit};
-use paper::{Node, Precond, Ranges, Run, Span, Todo, Tree, Want};
+use paper::{Kind, Node, Precond, Ranges, Run, Span, Todo, Tree, Want};
 use rows::{con_len, node_at};
 
 // "A child's literals are read where they lie: a part of the input row for a leaf, of the cell row for a unit."
@@ -24,7 +24,7 @@ pub fn con_lits<'a>(tree: &Tree<'a>, lits: &'a [i32], id: usize) -> &'a [i32]
 {
     let n = node_at(tree.nodes, id);
     let p = n.first;
-    if n.kind == 0 {
+    if n.is_leaf() {
         return &tree.inputs[p..p + 1];
     }
     let e = p + con_len(n);
@@ -38,12 +38,13 @@ pub fn precond_unweighted(tree: &Tree, marks: &[u8], id: usize, i: usize, want: 
     ensures { result ≡ plan_of tree.now.nodes.now marks.now id i want }
 {
     let n = node_at(tree.nodes, id);
-    if n.kind == 1 {
-        let at = n.first + i;
-        let todo = missing(marks[at], want);
-        return precond_unit(tree.nodes, n, i, todo);
+    match n.kind_of() {
+        Kind::Unit => {
+            let todo = missing(marks[n.first + i], want);
+            precond_unit(tree.nodes, n, i, todo)
+        }
+        _ => Precond::Return,
     }
-    Precond::Return
 }
 
 // The literals of the two children of n.

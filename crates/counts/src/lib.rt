@@ -67,7 +67,7 @@ pub fn define_unweighted(
         return Err(Refusal::NoSuchNode);
     }
     let n = node_at(nodes, id);
-    if n.kind == 2 {
+    if n.is_general() {
         return Err(Refusal::GeneralNode);
     }
     if value_count(n) <= i {

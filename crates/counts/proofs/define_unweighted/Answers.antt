@@ -1,9 +1,11 @@
+use borrow.Author.Tests.{eqb-true}
+use Rattle.std.proofs.lemmas.Bool.{eqb-false}
+use Rattle.paper.specs.Rows.{is_general}
 use mathlib.Core.Path.{sym, ap, ◌∙◌}
 use Prim.Native.Nat.{◌≤◌, ◌<◌, ◌^◌}
 use native.Mathlib.Omega.{arith}
 use lib.ListN.{length}
 use Rattle.paper.specs.Rows.{node_at, value_count}
-use Rattle.paper.specs.declared.Node.{Node}
 use Rattle.facts.proofs.Facts.{table_facts, used_length, words_fit}
 use Rattle.runs.proofs.Used.{fit_of}
 use Rattle.counts.proofs.Answer.{no_table, no_work, no_node, no_unit, no_output, answered, here, room, bounds}
@@ -24,18 +26,18 @@ returns-then-c-id-clause-value c =
     let w = sym c.work_ok.ensures ∙ c.if-not-work_ok.false in
     sym (no_node _ _ _ _ _ c.args.clauses.now _ _ _ _ _ _ t w c.if-c-id.true)
 
-pub returns-then-n-eq2-clause-value : goal.returns-then-n-eq2-clause-value
-returns-then-n-eq2-clause-value c =
+pub returns-then-is_general-clause-value : goal.returns-then-is_general-clause-value
+returns-then-is_general-clause-value c =
     let t = sym c.table_ok.ensures ∙ c.if-not-table_ok.false in
     let w = sym c.work_ok.ensures ∙ c.if-not-work_ok.false in
-    sym (no_unit _ _ _ _ _ c.args.clauses.now _ _ _ _ _ _ t w c.if-c-id.false (sym (ap (λ (m : Node). m.kind) c.node_at-n.ensures) ∙ c.if-n-eq2.true))
+    sym (no_unit _ _ _ _ _ c.args.clauses.now _ _ _ _ _ _ t w c.if-c-id.false (eqb-true _ 2 (ap is_general (sym c.node_at-n.ensures) ∙ sym c.is_general.ensures ∙ c.if-is_general.true)))
 
 pub returns-then-value_count-i-clause-value : goal.returns-then-value_count-i-clause-value
 returns-then-value_count-i-clause-value c =
     let t = sym c.table_ok.ensures ∙ c.if-not-table_ok.false in
     let w = sym c.work_ok.ensures ∙ c.if-not-work_ok.false in
     let o : value_count (node_at c.args.nodes.now c.args.id) ≤ c.args.i = omega (arith, c.if-value_count-i.true, c.value_count.ensures, ap value_count c.node_at-n.ensures) in
-    sym (no_output _ _ _ _ _ c.args.clauses.now _ _ _ _ _ _ t w c.if-c-id.false (λ z. c.if-n-eq2.false (ap (λ (m : Node). m.kind) c.node_at-n.ensures ∙ z)) o)
+    sym (no_output _ _ _ _ _ c.args.clauses.now _ _ _ _ _ _ t w c.if-c-id.false (eqb-false _ 2 (ap is_general (sym c.node_at-n.ensures) ∙ sym c.is_general.ensures ∙ c.if-is_general.false)) o)
 
 pub overflow_mul-words : goal.overflow_mul-words
 overflow_mul-words c =
@@ -117,4 +119,4 @@ returns-clause-value c =
     let t = sym c.table_ok.ensures ∙ c.if-not-table_ok.false in
     let w = sym c.work_ok.ensures ∙ c.if-not-work_ok.false in
     let o : c.args.i < value_count (node_at c.args.nodes.now c.args.id) = omega (arith, c.if-value_count-i.false, c.value_count.ensures, ap value_count c.node_at-n.ensures) in
-    (answered _ _ _ _ _ c.args.clauses.now _ _ _ _ _ _ t w c.if-c-id.false (λ z. c.if-n-eq2.false (ap (λ (m : Node). m.kind) c.node_at-n.ensures ∙ z)) o _ c.from.ensures _ _ _ _ c.meet.ensures).0
+    (answered _ _ _ _ _ c.args.clauses.now _ _ _ _ _ _ t w c.if-c-id.false (eqb-false _ 2 (ap is_general (sym c.node_at-n.ensures) ∙ sym c.is_general.ensures ∙ c.if-is_general.false)) o _ c.from.ensures _ _ _ _ c.meet.ensures).0
