@@ -7,25 +7,17 @@
 #![tactic(auto)]
 
 use paper::{Counters, Pair, Refusal};
-use std::io;
 use std::io::Read;
 
-// Why a run ends early: a call is refused, by document 01's number, or the line can't be written.
+// Why a run ends early: a call is refused, by document 01's number.
 #[derive(Debug, Drop)]
 enum Failure {
     Refused(u32),
-    Output(io::Error),
 }
 
 impl From<Refusal> for Failure {
     fn from(why: Refusal) -> Failure {
         Failure::Refused(why.into())
-    }
-}
-
-impl From<io::Error> for Failure {
-    fn from(error: io::Error) -> Failure {
-        Failure::Output(error)
     }
 }
 
@@ -198,13 +190,13 @@ impl Table {
     }
 }
 
-// A byte that is missing reads as 0.
+// A byte that is missing reads as 0. Where standard output can't be written, nothing is said of it.
 fn main(rt: HostRuntime) -> Result<(), Failure> {
     let mut asked = rt.reader().bytes().map_while(Result::ok);
     let case = Case::from(asked.next().unwrap_or(0));
     let n = times(asked.next().unwrap_or(0));
     let mut table = Table::new()?;
     let passed = table.run(case, n)?;
-    println!(rt; "passed: {passed}, cells: {}", table.counters.cells)?;
+    let _ = println!(rt; "passed: {passed}, cells: {}", table.counters.cells);
     Ok(())
 }

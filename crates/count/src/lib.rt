@@ -18,30 +18,30 @@ use paper::{Kind, Node, Precond, Ranges, Run, Span, Todo, Tree, Want};
 use rows::{con_len, node_at};
 
 // "A child's literals are read where they lie: a part of the input row for a leaf, of the cell row for a unit."
-pub fn con_lits<'a>(tree: &Tree<'a>, lits: &'a [i32], id: usize) -> &'a [i32]
-    requires { (id < length tree.now.nodes.now / node_words) × Ok tree.now.nodes.now (length tree.now.inputs.now) (length lits.now) }
-    ensures { result.now ≡ con_lits tree.now.nodes.now tree.now.inputs.now lits.now id }
+pub fn con_lits<'a>(nodes: &[u32], inputs: &'a [i32], lits: &'a [i32], id: usize) -> &'a [i32]
+    requires { (id < length nodes.now / node_words) × Ok nodes.now (length inputs.now) (length lits.now) }
+    ensures { result.now ≡ con_lits nodes.now inputs.now lits.now id }
 {
-    let n = node_at(tree.nodes, id);
+    let n = node_at(nodes, id);
     let p = n.first;
     if n.is_leaf() {
-        return &tree.inputs[p..p + 1];
+        return &inputs[p..p + 1];
     }
     let e = p + con_len(n);
     &lits[p..e]
 }
 
 // What is to be done at output i: return, pass the demand through, or walk the children and go on.
-pub fn precond_unweighted(tree: &Tree, marks: &[u8], id: usize, i: usize, want: Want) -> Precond
-    requires here { Here tree.now.nodes.now id i }
-    requires by_index { (ni : ℕ) × Ok tree.now.nodes.now ni (length marks.now) }
-    ensures { result ≡ plan_of tree.now.nodes.now marks.now id i want }
+pub fn precond_unweighted(nodes: &[u32], marks: &[u8], id: usize, i: usize, want: Want) -> Precond
+    requires here { Here nodes.now id i }
+    requires by_index { (ni : ℕ) × Ok nodes.now ni (length marks.now) }
+    ensures { result ≡ plan_of nodes.now marks.now id i want }
 {
-    let n = node_at(tree.nodes, id);
+    let n = node_at(nodes, id);
     match n.kind_of() {
         Kind::Unit => {
             let todo = missing(marks[n.first + i], want);
-            precond_unit(tree.nodes, n, i, todo)
+            precond_unit(nodes, n, i, todo)
         }
         _ => Precond::Return,
     }
@@ -54,8 +54,8 @@ pub fn children_lits<'a>(tree: &Tree<'a>, lits: &'a [i32], n: Node) -> (&'a [i32
     ensures left { result.0.now ≡ con_lits tree.now.nodes.now tree.now.inputs.now lits.now n.left }
     ensures right { result.1.now ≡ con_lits tree.now.nodes.now tree.now.inputs.now lits.now n.right }
 {
-    let left = con_lits(tree, lits, n.left);
-    let right = con_lits(tree, lits, n.right);
+    let left = con_lits(tree.nodes, tree.inputs, lits, n.left);
+    let right = con_lits(tree.nodes, tree.inputs, lits, n.right);
     (left, right)
 }
 
@@ -140,7 +140,7 @@ impl<'a> Encoder<'a> {
         ensures same { SameRows self.old self.new }
     {
         let marks = &mut *self.marks;
-        match precond_unweighted(tree, marks, id, i, want) {
+        match precond_unweighted(tree.nodes, marks, id, i, want) {
             Precond::Return => {}
             Precond::Pass(child, todo) => {
                 self.define_unweighted_rec(tree, child, i, todo.want);

@@ -135,14 +135,18 @@ pub fn cell_ok(lit: i32, mark: u8, f: usize, next: usize) -> bool
     (m <= 3) & ((m == 0) | (v != 0)) & ((v == 0) | (!is_negative(lit) & (f <= v) & (v < next)))
 }
 
-// Each input literal is nonzero with its variable below f.
+// Each input literal is nonzero with its variable below f. No test ends this loop or the next two: the machine then makes several at once.
 pub fn inputs_ok(inputs: &[i32], n: usize, f: usize) -> bool
     ensures { result ≡ inputs_ok inputs.now n f }
 {
     if inputs.len() < n {
         return false;
     }
-    inputs[..n].iter().all(|x| literal_ok(*x, f))
+    let mut ok = true;
+    for x in &inputs[..n] {
+        ok = ok & literal_ok(*x, f);
+    }
+    ok
 }
 
 pub fn cells_ok(lits: &[i32], marks: &[u8], n: usize, f: usize, next: usize) -> bool
@@ -171,7 +175,11 @@ pub fn marks_low(marks: &[u8], first: usize, count: usize) -> bool
     if marks.len() - first < count {
         return false;
     }
-    marks[first..first + count].iter().all(|m| *m <= 1)
+    let mut ok = true;
+    for m in &marks[first..first + count] {
+        ok = ok & (*m <= 1);
+    }
+    ok
 }
 
 // The keys from first on, count of them, are 1, 2, ..

@@ -69,7 +69,7 @@ pub fn literal_at(tree: &Tree, lits: &[i32], id: usize, i: usize) -> i32
     requires here { Here tree.now.nodes.now id i }
     ensures { result ≡ lit_at (con_lits tree.now.nodes.now tree.now.inputs.now lits.now id) i }
 {
-    con_lits(tree, lits, id)[i]
+    con_lits(tree.nodes, tree.inputs, lits, id)[i]
 }
 
 // The working rows hold copies of lits and marks. A dry run on them, from variable 1 and with a clause row that is full,

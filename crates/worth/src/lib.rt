@@ -78,12 +78,16 @@ pub fn values(nodes: &[u32], inputs: &[i32], assign: &[u8], work: &mut [i32], id
     rows::variable(work[id]) as usize
 }
 
-// The first n bytes are there, and each is 0 or 1.
+// The first n bytes are there, and each is 0 or 1. No test ends the loop: the machine then makes several at once.
 pub fn assigned(assign: &[u8], n: usize) -> bool
     ensures { result ≡ assigned_ok assign.now n }
 {
     if assign.len() < n {
         return false;
     }
-    assign[..n].iter().all(|b| *b <= 1)
+    let mut ok = true;
+    for b in &assign[..n] {
+        ok = ok & (*b <= 1);
+    }
+    ok
 }

@@ -1,18 +1,19 @@
-use Rattle.std.proofs.Common.{rules, ap, ◌∙◌, length, get_or, arith, Bool, ℤ, pos, take}
-use Rattle.std.proofs.lemmas.Iterator.{YieldsList-from_slice}
-use Rattle.std.proofs.lemmas.Iterator.Search.{all_from_yields_List}
+use Prim.Native.Nat.{◌<◌}
+use Rattle.std.proofs.Common.{sym, ap, ◌∙◌, get_or, arith, ℤ, pos, take}
 use Rattle.std.proofs.lemmas.List.{length-take-le, get_or-take}
-use borrow.Author.Tests.{tests, le-leb}
-use Rattle.paper.specs.Below.{and_then}
+use mir.Syntax.{w32}
+use mir.ValLaws.{to_z-of_z}
+use Rattle.paper.specs.Below.{all_none, all_step}
 use Rattle.paper.specs.Rows.{lit_ok}
-use Rattle.rows.proofs.Chains.{all_is}
 use Rattle.rows.proofs.inputs_ok.Goals as goal
 
-pub returns : goal.returns
-returns c =
+pub loop-x-init : goal.loop-x-init
+loop-x-init c = sym (all_none _)
+
+pub loop-x-preserved : goal.loop-x-preserved
+loop-x-preserved c =
     let a = c.args in
-    let p : ℤ → Bool = λ z. lit_ok z a.f in
-    let xs = take a.n a.inputs.now in
-    and_then _ _ _ (le-leb a.n (length a.inputs.now) (omega arith))
-    (all_from_yields_List p _ _ _ c.all.ensures.ran (YieldsList-from_slice xs c.iter.ensures.rest) (λ x b r k. search (rules, tests))
-    ∙ all_is p (pos 0) xs a.n (λ i. p (get_or a.inputs.now i (pos 0))) (length-take-le _ _ (omega arith)) (λ k l. ap p (get_or-take _ _ k _ l)))
+    let k = c.loop-x.x-index in
+    let low : k < a.n = omega (arith, c.loop-x-test.true, length-take-le a.n a.inputs.now (omega arith)) in
+    let bits = to_z-of_z w32 (get_or (take a.n a.inputs.now) k (pos 0)) (record { sfits = c.literal_ok-arg-1.given }) in
+    all_step _ _ k _ c.loop-x.invariant (c.literal_ok-ok.ensures ∙ ap (λ (z : ℤ). lit_ok z a.f) (bits ∙ get_or-take a.n a.inputs.now k (pos 0) low))
