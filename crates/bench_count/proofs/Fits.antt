@@ -6,6 +6,7 @@ use Rattle.paper.specs.Limits.{node_words}
 use Rattle.paper.specs.Below.{all_below, all_at, and_left, and_right, ands3}
 use Rattle.paper.specs.Rows.{node_at, is_unit, con_len, lit_ok, cell_ok, inputs_ok, cells_ok}
 use Rattle.paper.specs.declared.Node.{Node}
+use Rattle.paper.specs.declared.Run.{Run}
 use Rattle.facts.proofs.Facts.{lit_facts, cell_facts}
 use Rattle.runs.proofs.Used.{neg_low, neg_held}
 use Rattle.clause.specs.Row.{Neg}
@@ -56,6 +57,10 @@ cells_neg lits marks h j l =
     let g = and_right (leb (length lits) (length lits)) (leb (length lits) (length marks) && all_below (length lits) test) h in
     neg_held (get_or lits j (pos 0)) 1 (2 ^ 31) (omega arith)
     (cell_facts (get_or lits j (pos 0)) (get_or marks j 0) 1 (2 ^ 31) (all_at (length lits) test (and_right (leb (length lits) (length marks)) (all_below (length lits) test) g) j l)).lit
+
+-- the same variables, and words from another place
+pub moved : (ns : List ℕ) (ins lits : List ℤ) (marks : List ℕ) (u : Run) (w : ℕ) → w ≤ 1200000 → Fit ns ins lits marks u → Fit ns ins lits marks (from u.next w)
+moved ns ins lits marks u w h f = record { ok = f.ok; same = f.same; neg_ins = f.neg_ins; neg_lits = f.neg_lits; some = f.some; counted = omega arith }
 
 pub node_is : (ns : List ℕ) (ni nc k : ℕ) (n l r : Node) → n ≡ node_at ns k → l ≡ node_at ns n.left → r ≡ node_at ns n.right → node_fit n l r ni nc k ≡ fit_at ns ni nc k
 node_is ns ni nc k n l r a b d = rw (b, d, a)

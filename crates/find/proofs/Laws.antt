@@ -15,7 +15,7 @@ use Rattle.paper.specs.declared.Node.{Node}
 use Rattle.paper.specs.declared.Way.{Way}
 use Rattle.paper.specs.declared.Job.{Job}
 use Rattle.paper.specs.declared.Job.TheVariants.{Nothing, Count, Sum}
-use Rattle.find.specs.Ways.{Sorted, Place}
+use Rattle.find.specs.Ways.{Sorted, Muls, Place}
 
 -- ---- counts
 
@@ -150,6 +150,9 @@ module _ (keys : List ℕ) (n l r : Node) (v p : ℕ) where
       (λ _. record { left = omega arith; right = share_place keys r n.rmul v }))
 
 -- what is asked of a node, of one that is read
+pub muls_by : (n m : Node) → n ≡ m → Muls m → Muls n
+muls_by n m e h = rw e h
+
 pub sorted_by : (keys : List ℕ) (n m : Node) → n ≡ m → Sorted keys m → Sorted keys n
 sorted_by keys n m e h = rw e h
 
