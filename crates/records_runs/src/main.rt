@@ -2,6 +2,9 @@
 // of each. The expected output is written from document 01.
 #![tactic(auto)]
 
+ghost use Rattle.std.specs.Prelude.{◌≡◌};
+ghost use Rattle.records.specs.Table.{records_ok};
+
 use paper::Counters;
 use records::Record;
 
@@ -101,6 +104,20 @@ const KEYS: [u32; 2] = [1, 2];
 
 const CLAUSES: [i32; 8] = [0; 8];
 
+fn check_three(
+    nodes: [Record; 3],
+    inputs: &[i32],
+    keys: &[u32],
+    lits: &[i32],
+    marks: &[u8],
+    clauses: &[i32],
+    c: Counters,
+) -> bool
+    ensures { result ≡ records_ok nodes inputs.now keys.now lits.now marks.now clauses.now c }
+{
+    records::check_records(&nodes, inputs, keys, lits, marks, clauses, c)
+}
+
 impl Table {
     fn nodes(&self) -> [Record; 3] {
         [LEAF, Record { first: 1, ..LEAF }, self.tried]
@@ -131,22 +148,18 @@ impl Table {
         )
     }
 
-    fn records_ok(&self) -> bool {
-        records::check_records(
-            &self.nodes(),
+    // Where standard output can't be written, nothing is said of it.
+    fn say(&self, rt: &impl Print) {
+        let words = u8::from(self.words_ok());
+        let records = u8::from(check_three(
+            self.nodes(),
             &INPUTS,
             &KEYS,
             &self.lits,
             &self.marks,
             &CLAUSES,
             self.counters(),
-        )
-    }
-
-    // Where standard output can't be written, nothing is said of it.
-    fn say(&self, rt: &impl Print) {
-        let words = u8::from(self.words_ok());
-        let records = u8::from(self.records_ok());
+        ));
         let _ = println!(rt; "words {words} records {records}");
     }
 }

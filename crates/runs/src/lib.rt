@@ -63,6 +63,17 @@ fn run_on<D: Demand>(
     encoder.run
 }
 
+// The working area takes the literals and marks as they are, so that a dry run changes nothing else. Not by the library's `copy_from_slice`:
+// an archive for C would then want a `memmove` from outside.
+pub fn copy_row<T: Copy>(src: &[T], dst: &mut [T])
+    requires { length dst.old ≡ length src.now }
+    ensures { dst.new ≡ src.now }
+{
+    for k in 0..src.len() {
+        dst[k] = src[k];
+    }
+}
+
 // An output's literal, where it lies.
 pub fn literal_at(tree: &Tree, lits: &[i32], id: usize, i: usize) -> i32
     requires ok { Ok tree.now.nodes.now (length tree.now.inputs.now) (length lits.now) }
@@ -150,7 +161,7 @@ pub fn meet<D: Demand>(
     let cells = lits.len();
     let ints = &mut ints[..cells];
     let bytes = &mut bytes[..cells];
-    ints.copy_from_slice(lits);
-    bytes.copy_from_slice(marks);
+    copy_row(lits, ints);
+    copy_row(marks, bytes);
     run_twice(demand, tree, lits, marks, clauses, ints, bytes, c, id, i)
 }
