@@ -1,6 +1,6 @@
 -- "Limits: 4,096 nodes; 16,384 cells; depth 64; multiplier 1 to 65,535; key at most 2,147,483,647."
 -- The definitions have the numbers from here, the code from src/lib.rt. tools/limits.py compares every place that writes one: these two, the header, the
--- binding, tools/paper.py, the rows of replay and cases, find's bound of multipliers, and sentences that name a limit.
+-- binding, tools/paper.py, find's bound of multipliers, and sentences that name a limit. The rows of replay and cases are computed from the code's (`OWN`).
 use Rattle.std.specs.Prelude.{ℕ}
 
 abbrev pub node_limit : ℕ
