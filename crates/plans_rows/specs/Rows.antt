@@ -1,5 +1,5 @@
--- The lengths of the rows, and what `set` writes.
-use Rattle.std.specs.Prelude.{ℕ, ◌≡◌, Some, slice_get, vec_len}
+-- The lengths of the rows and of the fronts that are lent, what `rows` clears, and what `set` and `poke` write.
+use Rattle.std.specs.Prelude.{ℕ, ◌≡◌, Some, length, replicate, take, slice_get, vec_len}
 use Rattle.paper.specs.declared.Counters.{Counters}
 use Rattle.plans.specs.declared.command.Counter.{Counter}
 use Rattle.plans.specs.declared.command.Counter.TheVariants.{First, Next, Last, Nodes, Ins, Cells, Length, WorkInt, WorkByte}
@@ -8,8 +8,9 @@ use Rattle.plans.specs.declared.command.Entry.TheVariants.{Words, Inputs, Keys, 
 use Rattle.plans.specs.declared.command.Lengths.{Lengths}
 use Rattle.plans_rows.specs.declared.db.Db.{Db}
 
-abbrev pub lengths_of : Db → Lengths
-lengths_of db = record {
+-- the lengths of the rows themselves
+abbrev pub whole : Db → Lengths
+whole db = record {
   nodes = vec_len db.nodes;
   inputs = vec_len db.inputs;
   keys = vec_len db.keys;
@@ -18,6 +19,19 @@ lengths_of db = record {
   clauses = vec_len db.clauses;
   ints = vec_len db.ints;
   bytes = vec_len db.bytes;
+}
+
+-- the lengths of the fronts, which are what is lent
+abbrev pub lengths_of : Db → Lengths
+lengths_of db = record {
+  nodes = length (take db.lent.nodes db.nodes.items);
+  inputs = length (take db.lent.inputs db.inputs.items);
+  keys = length (take db.lent.keys db.keys.items);
+  lits = length (take db.lent.lits db.lits.items);
+  marks = length (take db.lent.marks db.marks.items);
+  clauses = length (take db.lent.clauses db.clauses.items);
+  ints = length (take db.lent.ints db.ints.items);
+  bytes = length (take db.lent.bytes db.bytes.items);
 }
 
 abbrev pub at_start : Counters
@@ -31,14 +45,24 @@ counted Nodes db = db.counters.nodes
 counted Ins db = db.counters.inputs
 counted Cells db = db.counters.cells
 counted Length db = db.counters.words
-counted WorkInt db = vec_len db.ints
-counted WorkByte db = vec_len db.bytes
+counted WorkInt db = length (take db.lent.ints db.ints.items)
+counted WorkByte db = length (take db.lent.bytes db.bytes.items)
 
--- the entry stands at i of its row
+-- the fronts that hold the table and the clauses are all 0, and so are the counters
+pub record Cleared (db : Db) : Type 0 where
+  pub nodes : take db.lent.nodes db.nodes.items ≡ replicate db.lent.nodes 0
+  pub inputs : take db.lent.inputs db.inputs.items ≡ replicate db.lent.inputs 0
+  pub keys : take db.lent.keys db.keys.items ≡ replicate db.lent.keys 0
+  pub lits : take db.lent.lits db.lits.items ≡ replicate db.lent.lits 0
+  pub marks : take db.lent.marks db.marks.items ≡ replicate db.lent.marks 0
+  pub clauses : take db.lent.clauses db.clauses.items ≡ replicate db.lent.clauses 0
+  pub counters : db.counters ≡ at_start
+
+-- the entry stands at i of the front of its row
 abbrev pub Holds : Entry → ℕ → Db → Type 0
-Holds (Words x) i db = slice_get db.nodes.items i ≡ Some x
-Holds (Inputs x) i db = slice_get db.inputs.items i ≡ Some x
-Holds (Keys x) i db = slice_get db.keys.items i ≡ Some x
-Holds (Lits x) i db = slice_get db.lits.items i ≡ Some x
-Holds (Marks x) i db = slice_get db.marks.items i ≡ Some x
-Holds (Clauses x) i db = slice_get db.clauses.items i ≡ Some x
+Holds (Words x) i db = slice_get (take db.lent.nodes db.nodes.items) i ≡ Some x
+Holds (Inputs x) i db = slice_get (take db.lent.inputs db.inputs.items) i ≡ Some x
+Holds (Keys x) i db = slice_get (take db.lent.keys db.keys.items) i ≡ Some x
+Holds (Lits x) i db = slice_get (take db.lent.lits db.lits.items) i ≡ Some x
+Holds (Marks x) i db = slice_get (take db.lent.marks db.marks.items) i ≡ Some x
+Holds (Clauses x) i db = slice_get (take db.lent.clauses db.clauses.items) i ≡ Some x

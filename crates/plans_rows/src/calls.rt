@@ -2,6 +2,7 @@
 ghost use Rattle.std.specs.Prelude.{◌≡◌};
 
 use crate::Db;
+use crate::db::{front, front_mut};
 use paper::{Pair, Semantics};
 use plans::{Answer, Call, Said};
 
@@ -32,14 +33,14 @@ impl Db {
     }
 
     fn leaf(&mut self, x: i32) -> Said {
-        let c = self.counters;
+        let (c, n) = (self.counters, self.lent);
         door::leaf(
-            &mut self.nodes,
-            &mut self.inputs,
-            &self.keys,
-            &self.lits,
-            &self.marks,
-            &self.clauses,
+            front_mut(&mut self.nodes, n.nodes),
+            front_mut(&mut self.inputs, n.inputs),
+            front(&self.keys, n.keys),
+            front(&self.lits, n.lits),
+            front(&self.marks, n.marks),
+            front(&self.clauses, n.clauses),
             c,
             x,
         )
@@ -47,28 +48,28 @@ impl Db {
     }
 
     fn dummy(&mut self) -> Said {
-        let c = self.counters;
+        let (c, n) = (self.counters, self.lent);
         door::dummy(
-            &mut self.nodes,
-            &self.inputs,
-            &self.keys,
-            &self.lits,
-            &self.marks,
-            &self.clauses,
+            front_mut(&mut self.nodes, n.nodes),
+            front(&self.inputs, n.inputs),
+            front(&self.keys, n.keys),
+            front(&self.lits, n.lits),
+            front(&self.marks, n.marks),
+            front(&self.clauses, n.clauses),
             c,
         )
         .said(c)
     }
 
     fn inner(&mut self, j: Pair) -> Said {
-        let c = self.counters;
+        let (c, n) = (self.counters, self.lent);
         door::inner(
-            &mut self.nodes,
-            &self.inputs,
-            &mut self.keys,
-            &mut self.lits,
-            &mut self.marks,
-            &self.clauses,
+            front_mut(&mut self.nodes, n.nodes),
+            front(&self.inputs, n.inputs),
+            front_mut(&mut self.keys, n.keys),
+            front_mut(&mut self.lits, n.lits),
+            front_mut(&mut self.marks, n.marks),
+            front(&self.clauses, n.clauses),
             c,
             j,
         )
@@ -76,16 +77,16 @@ impl Db {
     }
 
     fn define_unweighted(&mut self, id: usize, i: usize, semantics: Semantics) -> Said {
-        let c = self.counters;
+        let (c, n) = (self.counters, self.lent);
         door::define_unweighted(
-            &self.nodes,
-            &self.inputs,
-            &self.keys,
-            &mut self.lits,
-            &mut self.marks,
-            &mut self.clauses,
-            &mut self.ints,
-            &mut self.bytes,
+            front(&self.nodes, n.nodes),
+            front(&self.inputs, n.inputs),
+            front(&self.keys, n.keys),
+            front_mut(&mut self.lits, n.lits),
+            front_mut(&mut self.marks, n.marks),
+            front_mut(&mut self.clauses, n.clauses),
+            front_mut(&mut self.ints, n.ints),
+            front_mut(&mut self.bytes, n.bytes),
             c,
             id,
             i,
@@ -95,16 +96,16 @@ impl Db {
     }
 
     fn define_weighted(&mut self, id: usize, v: usize) -> Said {
-        let c = self.counters;
+        let (c, n) = (self.counters, self.lent);
         door::define_weighted(
-            &self.nodes,
-            &self.inputs,
-            &self.keys,
-            &mut self.lits,
-            &mut self.marks,
-            &mut self.clauses,
-            &mut self.ints,
-            &mut self.bytes,
+            front(&self.nodes, n.nodes),
+            front(&self.inputs, n.inputs),
+            front(&self.keys, n.keys),
+            front_mut(&mut self.lits, n.lits),
+            front_mut(&mut self.marks, n.marks),
+            front_mut(&mut self.clauses, n.clauses),
+            front_mut(&mut self.ints, n.ints),
+            front_mut(&mut self.bytes, n.bytes),
             c,
             id,
             v,
@@ -113,16 +114,16 @@ impl Db {
     }
 
     fn reserve_vars(&mut self, root: usize) -> Said {
-        let c = self.counters;
+        let (c, n) = (self.counters, self.lent);
         door::reserve_vars(
-            &self.nodes,
-            &self.inputs,
-            &self.keys,
-            &mut self.lits,
-            &self.marks,
-            &self.clauses,
-            &mut self.ints,
-            &mut self.bytes,
+            front(&self.nodes, n.nodes),
+            front(&self.inputs, n.inputs),
+            front(&self.keys, n.keys),
+            front_mut(&mut self.lits, n.lits),
+            front(&self.marks, n.marks),
+            front(&self.clauses, n.clauses),
+            front_mut(&mut self.ints, n.ints),
+            front_mut(&mut self.bytes, n.bytes),
             c,
             root,
         )
@@ -130,44 +131,44 @@ impl Db {
     }
 
     fn reset(&mut self) -> Said {
-        let c = self.counters;
+        let (c, n) = (self.counters, self.lent);
         door::reset(
-            &self.nodes,
-            &self.inputs,
-            &self.keys,
-            &self.lits,
-            &mut self.marks,
-            &self.clauses,
+            front(&self.nodes, n.nodes),
+            front(&self.inputs, n.inputs),
+            front(&self.keys, n.keys),
+            front(&self.lits, n.lits),
+            front_mut(&mut self.marks, n.marks),
+            front(&self.clauses, n.clauses),
             c,
         )
         .said(c)
     }
 
     fn empty_clauses(&self) -> Said {
-        let c = self.counters;
+        let (c, n) = (self.counters, self.lent);
         door::empty_clauses(
-            &self.nodes,
-            &self.inputs,
-            &self.keys,
-            &self.lits,
-            &self.marks,
-            &self.clauses,
+            front(&self.nodes, n.nodes),
+            front(&self.inputs, n.inputs),
+            front(&self.keys, n.keys),
+            front(&self.lits, n.lits),
+            front(&self.marks, n.marks),
+            front(&self.clauses, n.clauses),
             c,
         )
         .said(c)
     }
 
     fn value(&mut self, id: usize, assign: &[u8]) -> Said {
-        let c = self.counters;
+        let (c, n) = (self.counters, self.lent);
         door::value(
-            &self.nodes,
-            &self.inputs,
-            &self.keys,
-            &self.lits,
-            &self.marks,
-            &self.clauses,
-            &mut self.ints,
-            &mut self.bytes,
+            front(&self.nodes, n.nodes),
+            front(&self.inputs, n.inputs),
+            front(&self.keys, n.keys),
+            front(&self.lits, n.lits),
+            front(&self.marks, n.marks),
+            front(&self.clauses, n.clauses),
+            front_mut(&mut self.ints, n.ints),
+            front_mut(&mut self.bytes, n.bytes),
             c,
             id,
             assign,
@@ -176,14 +177,14 @@ impl Db {
     }
 
     fn check(&self) -> Said {
-        let c = self.counters;
+        let (c, n) = (self.counters, self.lent);
         door::check(
-            &self.nodes,
-            &self.inputs,
-            &self.keys,
-            &self.lits,
-            &self.marks,
-            &self.clauses,
+            front(&self.nodes, n.nodes),
+            front(&self.inputs, n.inputs),
+            front(&self.keys, n.keys),
+            front(&self.lits, n.lits),
+            front(&self.marks, n.marks),
+            front(&self.clauses, n.clauses),
             c,
         )
         .said(c)
