@@ -4,7 +4,6 @@ ghost use Rattle.plans.specs.Commands.{Fit, direction_of};
 
 use crate::number;
 use paper::{Pair, Semantics};
-use std::alloc::{AllocError, Global};
 use std::num::ParseIntError;
 use std::str;
 use std::str::{FromStr, Utf8Error};
@@ -16,7 +15,6 @@ pub const LONGEST: usize = 65536;
 #[derive(Clone, Copy, Debug, PartialEq, Eq)]
 pub enum LineError {
     Unreadable,
-    OutOfMemory,
 }
 
 impl From<Utf8Error> for LineError {
@@ -28,12 +26,6 @@ impl From<Utf8Error> for LineError {
 impl From<ParseIntError> for LineError {
     fn from(_error: ParseIntError) -> LineError {
         LineError::Unreadable
-    }
-}
-
-impl From<AllocError> for LineError {
-    fn from(_error: AllocError) -> LineError {
-        LineError::OutOfMemory
     }
 }
 
@@ -67,22 +59,22 @@ impl Lengths {
 }
 
 // A number for each row, and nothing more.
-impl TryFrom<&[&str]> for Lengths {
+impl TryFrom<&[&[u8]]> for Lengths {
     type Error = LineError;
 
-    fn try_from(words: &[&str]) -> Result<Lengths, LineError> {
+    fn try_from(words: &[&[u8]]) -> Result<Lengths, LineError> {
         let [nodes, inputs, keys, lits, marks, clauses, ints, bytes] = *words else {
             return Err(LineError::Unreadable);
         };
         Ok(Lengths {
-            nodes: number(nodes)?,
-            inputs: number(inputs)?,
-            keys: number(keys)?,
-            lits: number(lits)?,
-            marks: number(marks)?,
-            clauses: number(clauses)?,
-            ints: number(ints)?,
-            bytes: number(bytes)?,
+            nodes: read(nodes)?,
+            inputs: read(inputs)?,
+            keys: read(keys)?,
+            lits: read(lits)?,
+            marks: read(marks)?,
+            clauses: read(clauses)?,
+            ints: read(ints)?,
+            bytes: read(bytes)?,
         })
     }
 }
@@ -113,8 +105,8 @@ pub enum Counter {
 }
 
 // A public call of document 01.
-#[derive(Drop)]
-pub enum Call {
+#[derive(Clone, Copy)]
+pub enum Call<'a> {
     Fresh(usize, usize),
     Leaf(i32),
     Dummy,
@@ -124,15 +116,15 @@ pub enum Call {
     Reserve(usize),
     Reset,
     Clear,
-    // The node, and the assignment, a byte for each variable.
-    Value(usize, Vec<u8>),
+    // The node, and the assignment, a digit of the line for each variable.
+    Value(usize, &'a [u8]),
     Check,
 }
 
 // A call, or what is for the plans alone.
-#[derive(Drop)]
-pub enum Command {
-    Call(Call),
+#[derive(Clone, Copy)]
+pub enum Command<'a> {
+    Call(Call<'a>),
     Rows(Lengths),
     // The index, and what is written there.
     Poke(usize, Entry),
@@ -163,16 +155,21 @@ impl FromStr for Counter {
     }
 }
 
+// A number is read from the bytes of its word.
+fn read<T: FromStr<Err = ParseIntError>>(word: &[u8]) -> Result<T, LineError> {
+    number(str::from_utf8(word)?)
+}
+
 impl Entry {
     // A value is read by the type of its row.
-    fn parse(row: &str, value: &str) -> Result<Entry, LineError> {
+    fn parse(row: &[u8], value: &[u8]) -> Result<Entry, LineError> {
         match row {
-            "words" => Ok(Entry::Words(number(value)?)),
-            "inputs" => Ok(Entry::Inputs(number(value)?)),
-            "keys" => Ok(Entry::Keys(number(value)?)),
-            "lits" => Ok(Entry::Lits(number(value)?)),
-            "marks" => Ok(Entry::Marks(number(value)?)),
-            "clauses" => Ok(Entry::Clauses(number(value)?)),
+            b"words" => Ok(Entry::Words(read(value)?)),
+            b"inputs" => Ok(Entry::Inputs(read(value)?)),
+            b"keys" => Ok(Entry::Keys(read(value)?)),
+            b"lits" => Ok(Entry::Lits(read(value)?)),
+            b"marks" => Ok(Entry::Marks(read(value)?)),
+            b"clauses" => Ok(Entry::Clauses(read(value)?)),
             _ => Err(LineError::Unreadable),
         }
     }
@@ -189,47 +186,91 @@ fn semantics_of(direction: &str) -> Result<Semantics, LineError>
     }
 }
 
-// The digits as bytes.
-fn bits_of(alloc: Global, digits: &str) -> Result<Vec<u8>, LineError> {
-    if !digits.bytes().all(|b| b.is_ascii_digit()) {
-        return Err(LineError::Unreadable);
+// The bits of `value` are digits, one for each variable.
+fn digits_of(word: &[u8]) -> Result<&[u8], LineError> {
+    if word.iter().all(|b| b.is_ascii_digit()) {
+        Ok(word)
+    } else {
+        Err(LineError::Unreadable)
     }
-    let bits = digits.bytes().map(|b| b.saturating_sub(b'0'));
-    Ok(bits.collect(alloc)?)
 }
 
-impl Call {
-    fn from_words(alloc: Global, words: &[&str]) -> Result<Call, LineError> {
+// A space, a tab, or the carriage return of a line that ends in two bytes.
+fn is_blank(b: u8) -> bool {
+    b == b' ' || b == b'\t' || b == b'\r'
+}
+
+// `rows` and its eight lengths are the most words that a command has. One more is room enough to tell a line of too many.
+const MOST_WORDS: usize = 10;
+
+// The words of a line, as many as there is room for.
+#[derive(Clone, Copy)]
+struct Words<'a> {
+    words: [&'a [u8]; MOST_WORDS],
+    len: usize,
+}
+
+impl<'a> Words<'a> {
+    fn push(&mut self, word: &'a [u8]) {
+        if self.len < MOST_WORDS {
+            self.words[self.len] = word;
+            self.len += 1;
+        }
+    }
+
+    fn of(line: &'a [u8]) -> Words<'a> {
+        let mut words = Words {
+            words: [&[]; MOST_WORDS],
+            len: 0,
+        };
+        let mut from = 0;
+        for (i, b) in line.iter().enumerate() {
+            if is_blank(*b) {
+                if from < i {
+                    words.push(&line[from..i]);
+                }
+                from = i + 1;
+            }
+        }
+        if from < line.len() {
+            words.push(&line[from..]);
+        }
+        words
+    }
+}
+
+impl<'a> Call<'a> {
+    fn from_words(words: &[&'a [u8]]) -> Result<Call<'a>, LineError> {
         match *words {
-            ["fresh", first, last] => Ok(Call::Fresh(number(first)?, number(last)?)),
-            ["leaf", x] => Ok(Call::Leaf(number(x)?)),
-            ["dummy"] => Ok(Call::Dummy),
-            ["join", left, lmul, right, rmul] => Ok(Call::Join(Pair {
-                left: number(left)?,
-                lmul: number(lmul)?,
-                right: number(right)?,
-                rmul: number(rmul)?,
+            [b"fresh", first, last] => Ok(Call::Fresh(read(first)?, read(last)?)),
+            [b"leaf", x] => Ok(Call::Leaf(read(x)?)),
+            [b"dummy"] => Ok(Call::Dummy),
+            [b"join", left, lmul, right, rmul] => Ok(Call::Join(Pair {
+                left: read(left)?,
+                lmul: read(lmul)?,
+                right: read(right)?,
+                rmul: read(rmul)?,
             })),
-            ["count", id, i, direction] => Ok(Call::Count(
-                number(id)?,
-                number(i)?,
-                semantics_of(direction)?,
+            [b"count", id, i, direction] => Ok(Call::Count(
+                read(id)?,
+                read(i)?,
+                semantics_of(str::from_utf8(direction)?)?,
             )),
-            ["sum", id, v] => Ok(Call::Sum(number(id)?, number(v)?)),
-            ["reserve", id] => Ok(Call::Reserve(number(id)?)),
-            ["reset"] => Ok(Call::Reset),
-            ["clear"] => Ok(Call::Clear),
-            ["value", id] => Ok(Call::Value(number(id)?, Vec::new(alloc))),
-            ["value", id, digits] => Ok(Call::Value(number(id)?, bits_of(alloc, digits)?)),
-            ["check"] => Ok(Call::Check),
+            [b"sum", id, v] => Ok(Call::Sum(read(id)?, read(v)?)),
+            [b"reserve", id] => Ok(Call::Reserve(read(id)?)),
+            [b"reset"] => Ok(Call::Reset),
+            [b"clear"] => Ok(Call::Clear),
+            [b"value", id] => Ok(Call::Value(read(id)?, &[])),
+            [b"value", id, digits] => Ok(Call::Value(read(id)?, digits_of(digits)?)),
+            [b"check"] => Ok(Call::Check),
             _ => Err(LineError::Unreadable),
         }
     }
 }
 
-impl Command {
+impl<'a> Command<'a> {
     // The command of a line, without what ends the line. An empty line and a comment have none.
-    pub fn parse(alloc: Global, line: &[u8]) -> Result<Option<Command>, LineError>
+    pub fn parse(line: &'a [u8]) -> Result<Option<Command<'a>>, LineError>
         ensures comment { slice_get line.now 0 ≡ Some 35 → result ≡ Ok None }
         ensures too_long { slice_get line.now 0 ≢ Some 35 → LONGEST < length line.now
             → result ≡ Err LineError.Unreadable }
@@ -241,24 +282,23 @@ impl Command {
             return Err(LineError::Unreadable);
         }
 
-        // A carriage return is the end of a line that ends in two bytes.
-        let words: Vec<&str> = str::from_utf8(line)?
-            .split([' ', '\t', '\r'])
-            .filter(|word| !word.is_empty())
-            .collect(alloc)?;
-        if words.is_empty() {
+        let words = Words::of(line);
+        if words.len == 0 {
             return Ok(None);
         }
-        Ok(Some(Command::from_words(alloc, &words)?))
+        Ok(Some(Command::from_words(&words.words[..words.len])?))
     }
 
-    fn from_words(alloc: Global, words: &[&str]) -> Result<Command, LineError> {
+    fn from_words(words: &[&'a [u8]]) -> Result<Command<'a>, LineError> {
         match *words {
-            ["rows", ref lengths @ ..] => Ok(Command::Rows(Lengths::try_from(lengths)?)),
-            ["poke", row, i, value] => Ok(Command::Poke(number(i)?, Entry::parse(row, value)?)),
-            ["set", counter, value] => Ok(Command::Set(counter.parse()?, number(value)?)),
-            ["dump"] => Ok(Command::Dump),
-            _ => Ok(Command::Call(Call::from_words(alloc, words)?)),
+            [b"rows", ref lengths @ ..] => Ok(Command::Rows(Lengths::try_from(lengths)?)),
+            [b"poke", row, i, value] => Ok(Command::Poke(read(i)?, Entry::parse(row, value)?)),
+            [b"set", counter, value] => {
+                let counter: Counter = str::from_utf8(counter)?.parse()?;
+                Ok(Command::Set(counter, read(value)?))
+            }
+            [b"dump"] => Ok(Command::Dump),
+            _ => Ok(Command::Call(Call::from_words(words)?)),
         }
     }
 }
