@@ -1,14 +1,25 @@
 // The public calls of document 01, on the rows.
-ghost use Rattle.std.specs.Prelude.{◌≡◌};
+ghost use Rattle.std.specs.Prelude.{◌≡◌, ◌-◌, length, map, take};
 
 use crate::Db;
 use crate::db::{front, front_mut};
 use paper::{Pair, Semantics};
 use plans::{Answer, Call, Said};
 
+// The digits as bytes, as many as the row holds.
+fn bits_of<'a>(digits: &[u8], bits: &'a mut [u8]) -> &'a [u8]
+    ensures { result.now ≡ map (λ d. d - 48) (take (length bits.old) digits.now) }
+{
+    let most = digits.len().min(bits.len());
+    for i in 0..most {
+        bits[i] = digits[i].saturating_sub(b'0');
+    }
+    &bits[..most]
+}
+
 impl Db {
     // What the call says; the counters are those after it.
-    pub fn call(&mut self, call: Call) -> Said
+    pub fn call(&mut self, call: Call<'_>) -> Said
         ensures { self.new.counters ≡ result.counters }
     {
         let said = self.called(call);
@@ -16,7 +27,7 @@ impl Db {
         said
     }
 
-    fn called(&mut self, call: Call) -> Said {
+    fn called(&mut self, call: Call<'_>) -> Said {
         match call {
             Call::Fresh(first, last) => door::fresh(first, last).said(self.counters),
             Call::Leaf(x) => self.leaf(x),
@@ -27,7 +38,7 @@ impl Db {
             Call::Reserve(id) => self.reserve_vars(id),
             Call::Reset => self.reset(),
             Call::Clear => self.empty_clauses(),
-            Call::Value(id, assign) => self.value(id, &assign),
+            Call::Value(id, digits) => self.value(id, digits),
             Call::Check => self.check(),
         }
     }
@@ -158,8 +169,9 @@ impl Db {
         .said(c)
     }
 
-    fn value(&mut self, id: usize, assign: &[u8]) -> Said {
+    fn value(&mut self, id: usize, digits: &[u8]) -> Said {
         let (c, n) = (self.counters, self.lent);
+        let assign = bits_of(digits, &mut self.bits);
         door::value(
             front(&self.nodes, n.nodes),
             front(&self.inputs, n.inputs),

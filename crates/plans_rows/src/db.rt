@@ -68,9 +68,10 @@ pub(crate) fn front_mut<T>(row: &mut [T], n: usize) -> &mut [T]
     &mut row[..most]
 }
 
-fn clear<T: Copy>(row: &mut [T], n: usize, zero: T)
+fn clear<T: Clone>(row: &mut [T], n: usize, zero: T)
+    requires { T.is_infallible zero }
     ensures len { length row.new ≡ length row.old }
-    ensures zeros { n ≤ length row.old → take n row.new ≡ replicate n zero }
+    ensures zeros { ((x : T) → T.is_clone zero x → x ≡ zero) → n ≤ length row.old → take n row.new ≡ replicate n zero }
 {
     let most = n.min(row.len());
     row[..most].fill(zero);
@@ -146,7 +147,7 @@ impl Db {
         ensures inside { IsOk result ↔ (Fit n OWN × Fit n (whole self.old)) }
         ensures err { OnErr result (self.new ≡ self.old) }
     {
-        if !(n.fit(OWN) && n.fit(self.lengths())) {
+        if !n.fit(OWN) || !n.fit(self.lengths()) {
             return Err(LineError::Unreadable);
         }
         clear(&mut self.nodes, n.nodes, 0);
