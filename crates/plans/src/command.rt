@@ -3,6 +3,7 @@ ghost use Rattle.std.specs.Prelude.{◌≡◌, ◌≢◌, ◌<◌, ◌↔◌, Is
 ghost use Rattle.plans.specs.Commands.{Fit, direction_of};
 
 use crate::number;
+use crate::words::Words;
 use paper::{Pair, Semantics};
 use std::num::ParseIntError;
 use std::str;
@@ -195,50 +196,6 @@ fn digits_of(word: &[u8]) -> Result<&[u8], LineError> {
     }
 }
 
-// A space, a tab, or the carriage return of a line that ends in two bytes.
-fn is_blank(b: u8) -> bool {
-    b == b' ' || b == b'\t' || b == b'\r'
-}
-
-// `rows` and its eight lengths are the most words that a command has. One more is room enough to tell a line of too many.
-const MOST_WORDS: usize = 10;
-
-// The words of a line, as many as there is room for.
-#[derive(Clone, Copy)]
-struct Words<'a> {
-    words: [&'a [u8]; MOST_WORDS],
-    len: usize,
-}
-
-impl<'a> Words<'a> {
-    fn push(&mut self, word: &'a [u8]) {
-        if self.len < MOST_WORDS {
-            self.words[self.len] = word;
-            self.len += 1;
-        }
-    }
-
-    fn of(line: &'a [u8]) -> Words<'a> {
-        let mut words = Words {
-            words: [&[]; MOST_WORDS],
-            len: 0,
-        };
-        let mut from = 0;
-        for (i, b) in line.iter().enumerate() {
-            if is_blank(*b) {
-                if from < i {
-                    words.push(&line[from..i]);
-                }
-                from = i + 1;
-            }
-        }
-        if from < line.len() {
-            words.push(&line[from..]);
-        }
-        words
-    }
-}
-
 impl<'a> Call<'a> {
     fn from_words(words: &[&'a [u8]]) -> Result<Call<'a>, LineError> {
         match *words {
@@ -283,10 +240,10 @@ impl<'a> Command<'a> {
         }
 
         let words = Words::of(line);
-        if words.len == 0 {
+        if words.is_empty() {
             return Ok(None);
         }
-        Ok(Some(Command::from_words(&words.words[..words.len])?))
+        Ok(Some(Command::from_words(words.as_slice())?))
     }
 
     fn from_words(words: &[&'a [u8]]) -> Result<Command<'a>, LineError> {
