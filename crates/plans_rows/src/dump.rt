@@ -2,6 +2,8 @@
 ghost use Rattle.std.specs.Prelude.{◌≡◌, take, drop};
 
 use crate::Db;
+use crate::db::front;
+use itoa::{Buffer, Integer};
 use paper::{NODE_WORDS, Node};
 use std::fmt;
 
@@ -13,33 +15,54 @@ fn part<T>(row: &[T], first: usize, count: usize) -> &[T]
     rest.get(..count).unwrap_or(rest)
 }
 
+// As `{n}`, at a fourth of the cost: a large table has a number for each entry of its rows.
+fn fmt_number<W: fmt::Write, I: Integer>(f: &mut fmt::Formatter<W>, n: I) -> fmt::Result {
+    let mut digits = Buffer::new();
+    f.write_str(digits.format(n))
+}
+
 impl Db {
     // A table that fails the check may have a kind that is none, and inputs and cells that are not in the rows.
     fn fmt_node<W: fmt::Write>(&self, f: &mut fmt::Formatter<W>, node: Node) -> fmt::Result {
         let kind = match node.kind {
             0 => {
-                let literal = self.inputs.get(node.first).copied().unwrap_or(0);
-                return write!(f, "leaf {literal}");
+                let inputs = front(&self.inputs, self.lent.inputs);
+                f.write_str(" leaf ")?;
+                return fmt_number(f, inputs.get(node.first).copied().unwrap_or(0));
             }
-            1 => "unit",
-            2 => "general",
-            3 => return write!(f, "dummy"),
-            _ => "other",
+            1 => " unit",
+            2 => " general",
+            3 => return f.write_str(" dummy"),
+            _ => " other",
         };
-        let Node {
-            left,
-            lmul,
-            right,
-            rmul,
-            depth,
-            ..
-        } = node;
-        write!(f, "{kind} {left} {lmul} {right} {rmul} depth {depth} cells")?;
-        let keys = part(&self.keys, node.first, node.count);
-        let lits = part(&self.lits, node.first, node.count);
-        let marks = part(&self.marks, node.first, node.count);
+        f.write_str(kind)?;
+        for n in [node.left, node.lmul, node.right, node.rmul] {
+            f.write_str(" ")?;
+            fmt_number(f, n)?;
+        }
+        f.write_str(" depth ")?;
+        fmt_number(f, node.depth)?;
+        f.write_str(" cells")?;
+        self.fmt_cells(f, node.first, node.count)
+    }
+
+    fn fmt_cells<W: fmt::Write>(
+        &self,
+        f: &mut fmt::Formatter<W>,
+        first: usize,
+        count: usize,
+    ) -> fmt::Result {
+        let lent = self.lent;
+        let keys = part(front(&self.keys, lent.keys), first, count);
+        let lits = part(front(&self.lits, lent.lits), first, count);
+        let marks = part(front(&self.marks, lent.marks), first, count);
         for ((key, lit), mark) in keys.iter().zip(lits).zip(marks) {
-            write!(f, " {key}:{lit}:{mark}")?;
+            f.write_str(" ")?;
+            fmt_number(f, *key)?;
+            f.write_str(":")?;
+            fmt_number(f, *lit)?;
+            f.write_str(":")?;
+            fmt_number(f, *mark)?;
         }
         Ok(())
     }
@@ -47,11 +70,12 @@ impl Db {
 
 impl fmt::Display for Db {
     fn fmt<W: fmt::Write>(&self, f: &mut fmt::Formatter<W>) -> fmt::Result {
-        write!(f, "0")?;
-        for id in 0..self.counters.nodes.min(self.nodes.len() / NODE_WORDS) {
-            let joint = if id == 0 { "" } else { " ;" };
-            write!(f, "{joint} {id} ")?;
-            self.fmt_node(f, rows::node_at(&self.nodes, id))?;
+        f.write_str("0")?;
+        let nodes = front(&self.nodes, self.lent.nodes);
+        for id in 0..self.counters.nodes.min(nodes.len() / NODE_WORDS) {
+            f.write_str(if id == 0 { " " } else { " ; " })?;
+            fmt_number(f, id)?;
+            self.fmt_node(f, rows::node_at(nodes, id))?;
         }
         Ok(())
     }
