@@ -1,6 +1,7 @@
 // Standard input and standard output as the programs over plans take them.
 ghost use Rattle.std.specs.Prelude.{◌≡◌, ◌<◌, IfOk, IsOk, Ok, None, false, true, length};
-ghost use Rattle.std.specs.Io.{IsPrefixLen, ReadsAtMost, WritesAtMost};
+ghost use Rattle.std.specs.Counts.{IsPrefixLen};
+ghost use Rattle.std.specs.Io.{ReadsAtMost, WritesAtMost};
 ghost use Rattle.std.specs.Io.KnownBytes.{Keeps, ReadConsumes, WriteAppends};
 
 use std::io;
