@@ -60,22 +60,22 @@ impl Lengths {
 }
 
 // A number for each row, and nothing more.
-impl TryFrom<&[&[u8]]> for Lengths {
+impl TryFrom<&[&str]> for Lengths {
     type Error = LineError;
 
-    fn try_from(words: &[&[u8]]) -> Result<Lengths, LineError> {
+    fn try_from(words: &[&str]) -> Result<Lengths, LineError> {
         let [nodes, inputs, keys, lits, marks, clauses, ints, bytes] = *words else {
             return Err(LineError::Unreadable);
         };
         Ok(Lengths {
-            nodes: read(nodes)?,
-            inputs: read(inputs)?,
-            keys: read(keys)?,
-            lits: read(lits)?,
-            marks: read(marks)?,
-            clauses: read(clauses)?,
-            ints: read(ints)?,
-            bytes: read(bytes)?,
+            nodes: number(nodes)?,
+            inputs: number(inputs)?,
+            keys: number(keys)?,
+            lits: number(lits)?,
+            marks: number(marks)?,
+            clauses: number(clauses)?,
+            ints: number(ints)?,
+            bytes: number(bytes)?,
         })
     }
 }
@@ -156,21 +156,16 @@ impl FromStr for Counter {
     }
 }
 
-// A number is read from the bytes of its word.
-fn read<T: FromStr<Err = ParseIntError>>(word: &[u8]) -> Result<T, LineError> {
-    number(str::from_utf8(word)?)
-}
-
 impl Entry {
     // A value is read by the type of its row.
-    fn parse(row: &[u8], value: &[u8]) -> Result<Entry, LineError> {
+    fn parse(row: &str, value: &str) -> Result<Entry, LineError> {
         match row {
-            b"words" => Ok(Entry::Words(read(value)?)),
-            b"inputs" => Ok(Entry::Inputs(read(value)?)),
-            b"keys" => Ok(Entry::Keys(read(value)?)),
-            b"lits" => Ok(Entry::Lits(read(value)?)),
-            b"marks" => Ok(Entry::Marks(read(value)?)),
-            b"clauses" => Ok(Entry::Clauses(read(value)?)),
+            "words" => Ok(Entry::Words(number(value)?)),
+            "inputs" => Ok(Entry::Inputs(number(value)?)),
+            "keys" => Ok(Entry::Keys(number(value)?)),
+            "lits" => Ok(Entry::Lits(number(value)?)),
+            "marks" => Ok(Entry::Marks(number(value)?)),
+            "clauses" => Ok(Entry::Clauses(number(value)?)),
             _ => Err(LineError::Unreadable),
         }
     }
@@ -188,38 +183,39 @@ fn semantics_of(direction: &str) -> Result<Semantics, LineError>
 }
 
 // The bits of `value` are digits, one for each variable.
-fn digits_of(word: &[u8]) -> Result<&[u8], LineError> {
-    if word.iter().all(|b| b.is_ascii_digit()) {
-        Ok(word)
+fn digits_of(word: &str) -> Result<&[u8], LineError> {
+    let digits = word.as_bytes();
+    if digits.iter().all(|b| b.is_ascii_digit()) {
+        Ok(digits)
     } else {
         Err(LineError::Unreadable)
     }
 }
 
 impl<'a> Call<'a> {
-    fn from_words(words: &[&'a [u8]]) -> Result<Call<'a>, LineError> {
+    fn from_words(words: &[&'a str]) -> Result<Call<'a>, LineError> {
         match *words {
-            [b"fresh", first, last] => Ok(Call::Fresh(read(first)?, read(last)?)),
-            [b"leaf", x] => Ok(Call::Leaf(read(x)?)),
-            [b"dummy"] => Ok(Call::Dummy),
-            [b"join", left, lmul, right, rmul] => Ok(Call::Join(Pair {
-                left: read(left)?,
-                lmul: read(lmul)?,
-                right: read(right)?,
-                rmul: read(rmul)?,
+            ["fresh", first, last] => Ok(Call::Fresh(number(first)?, number(last)?)),
+            ["leaf", x] => Ok(Call::Leaf(number(x)?)),
+            ["dummy"] => Ok(Call::Dummy),
+            ["join", left, lmul, right, rmul] => Ok(Call::Join(Pair {
+                left: number(left)?,
+                lmul: number(lmul)?,
+                right: number(right)?,
+                rmul: number(rmul)?,
             })),
-            [b"count", id, i, direction] => Ok(Call::Count(
-                read(id)?,
-                read(i)?,
-                semantics_of(str::from_utf8(direction)?)?,
+            ["count", id, i, direction] => Ok(Call::Count(
+                number(id)?,
+                number(i)?,
+                semantics_of(direction)?,
             )),
-            [b"sum", id, v] => Ok(Call::Sum(read(id)?, read(v)?)),
-            [b"reserve", id] => Ok(Call::Reserve(read(id)?)),
-            [b"reset"] => Ok(Call::Reset),
-            [b"clear"] => Ok(Call::Clear),
-            [b"value", id] => Ok(Call::Value(read(id)?, &[])),
-            [b"value", id, digits] => Ok(Call::Value(read(id)?, digits_of(digits)?)),
-            [b"check"] => Ok(Call::Check),
+            ["sum", id, v] => Ok(Call::Sum(number(id)?, number(v)?)),
+            ["reserve", id] => Ok(Call::Reserve(number(id)?)),
+            ["reset"] => Ok(Call::Reset),
+            ["clear"] => Ok(Call::Clear),
+            ["value", id] => Ok(Call::Value(number(id)?, &[])),
+            ["value", id, digits] => Ok(Call::Value(number(id)?, digits_of(digits)?)),
+            ["check"] => Ok(Call::Check),
             _ => Err(LineError::Unreadable),
         }
     }
@@ -239,22 +235,19 @@ impl<'a> Command<'a> {
             return Err(LineError::Unreadable);
         }
 
-        let words = Words::of(line);
+        let words = Words::of(str::from_utf8(line)?);
         if words.is_empty() {
             return Ok(None);
         }
         Ok(Some(Command::from_words(words.as_slice())?))
     }
 
-    fn from_words(words: &[&'a [u8]]) -> Result<Command<'a>, LineError> {
+    fn from_words(words: &[&'a str]) -> Result<Command<'a>, LineError> {
         match *words {
-            [b"rows", ref lengths @ ..] => Ok(Command::Rows(Lengths::try_from(lengths)?)),
-            [b"poke", row, i, value] => Ok(Command::Poke(read(i)?, Entry::parse(row, value)?)),
-            [b"set", counter, value] => {
-                let counter: Counter = str::from_utf8(counter)?.parse()?;
-                Ok(Command::Set(counter, read(value)?))
-            }
-            [b"dump"] => Ok(Command::Dump),
+            ["rows", ref lengths @ ..] => Ok(Command::Rows(Lengths::try_from(lengths)?)),
+            ["poke", row, i, value] => Ok(Command::Poke(number(i)?, Entry::parse(row, value)?)),
+            ["set", counter, value] => Ok(Command::Set(counter.parse()?, number(value)?)),
+            ["dump"] => Ok(Command::Dump),
             _ => Ok(Command::Call(Call::from_words(words)?)),
         }
     }

@@ -1,6 +1,7 @@
 // The words of a line.
-ghost use Rattle.std.specs.Prelude.{◌≤◌};
+ghost use Rattle.std.specs.Prelude.{◌≤◌, ◌↔◌, IsTrue};
 ghost use Rattle.plans.specs.declared.words.TheConstants.{MOST_WORDS};
+ghost use Rattle.plans.specs.Words.{IsBlank};
 
 // `rows` and its eight lengths are the most words that a command has. One more is room enough to tell a line of too many.
 const MOST_WORDS: usize = 10;
@@ -8,24 +9,25 @@ const MOST_WORDS: usize = 10;
 // The words of a line from its front on, as many as there is room for.
 #[derive(Drop)]
 pub struct Words<'a> {
-    words: [&'a [u8]; MOST_WORDS],
+    words: [&'a str; MOST_WORDS],
     len: usize,
     ghost within: { len ≤ MOST_WORDS },
 }
 
-// A space, a tab, or the carriage return of a line that ends in two bytes.
-fn is_blank(b: u8) -> bool {
+fn is_blank(b: u8) -> bool
+    ensures { IsTrue result ↔ IsBlank b }
+{
     b == b' ' || b == b'\t' || b == b'\r'
 }
 
 impl<'a> Words<'a> {
-    pub fn of(line: &'a [u8]) -> Words<'a> {
+    pub fn of(line: &'a str) -> Words<'a> {
         let mut words = Words {
-            words: [&[]; MOST_WORDS],
+            words: [""; MOST_WORDS],
             len: 0,
         };
         let mut from = 0;
-        for (i, b) in line.iter().enumerate() {
+        for (i, b) in line.as_bytes().iter().enumerate() {
             if is_blank(*b) {
                 if from < i {
                     words.push(&line[from..i]);
@@ -39,7 +41,7 @@ impl<'a> Words<'a> {
         words
     }
 
-    fn push(&mut self, word: &'a [u8]) {
+    fn push(&mut self, word: &'a str) {
         if self.len < MOST_WORDS {
             self.words[self.len] = word;
             self.len += 1;
@@ -50,7 +52,7 @@ impl<'a> Words<'a> {
         self.len == 0
     }
 
-    pub fn as_slice(&self) -> &[&'a [u8]] {
+    pub fn as_slice(&self) -> &[&'a str] {
         &self.words[..self.len]
     }
 }
