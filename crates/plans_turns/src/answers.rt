@@ -1,7 +1,8 @@
 // The line of an answer.
 ghost use Rattle.std.specs.Prelude.{◌≡◌, ◌++◌, ◌∷◌, [], true, false, take, codes, OnOk};
 ghost use Rattle.std.specs.Io.KnownBytes.{Appends};
-ghost use Rattle.plans.specs.Heads.{told_of, head_text};
+ghost use Rattle.std.specs.Fmt.{signed_decimal};
+ghost use Rattle.plans.specs.Heads.{head_text, told_of, value_of};
 
 use itoa::{Buffer, Integer};
 use plans::{Given, LONGEST, LineError, Said};
@@ -16,6 +17,15 @@ fn put_number<W: Write, I: Integer>(out: &mut W, n: I) -> io::Result<()>
     out.write_all(digits.format(n).as_bytes())
 }
 
+fn put_given<W: Write>(out: &mut W, given: Given) -> io::Result<()>
+    ensures { OnOk result (Appends (W.contents out.old) (W.contents out.new) (signed_decimal (value_of given))) }
+{
+    match given {
+        Given::Number(n) => put_number(out, n),
+        Given::Literal(x) => put_number(out, x),
+    }
+}
+
 // What is said, as its `Display` has it.
 fn put_said<W: Write>(out: &mut W, said: Said) -> io::Result<()>
     ensures { OnOk result (Appends (W.contents out.old) (W.contents out.new)
@@ -24,10 +34,7 @@ fn put_said<W: Write>(out: &mut W, said: Said) -> io::Result<()>
     match said.given {
         Ok(given) => {
             out.write_all(b"0 ")?;
-            match given {
-                Given::Number(n) => put_number(out, n),
-                Given::Literal(x) => put_number(out, x),
-            }
+            put_given(out, given)
         }
         Err(why) => {
             put_number(out, u32::from(why))?;

@@ -1,10 +1,11 @@
-use Rattle.std.proofs.Common.{◌≡◌, ◌∙◌, ℕ, List, [], ◌∷◌, ◌++◌, absurd, ap, append_assoc, arith, sym, tt}
+use Rattle.std.proofs.Common.{◌≡◌, ◌∙◌, ℕ, List, [], ◌∷◌, ◌++◌, ap, append_assoc, arith, sym}
 use Rattle.std.proofs.lemmas.Fmt.{decimal_digit}
 use Rattle.std.proofs.lemmas.Result.{on_ok_weaker}
 use Rattle.std.specs.Fmt.{decimal, signed_decimal}
 use Rattle.std.specs.Io.KnownBytes.{Appends}
 use Rattle.std.specs.Prelude.{Option, None, Some}
 use Rattle.paper.specs.Numbers.{number_of}
+use Rattle.plans.specs.Heads.{value_of}
 use Rattle.plans_turns.proofs.answers.put_said.Goals as goal
 
 zero : 48 ∷ [] ≡ decimal 0
@@ -16,13 +17,9 @@ joined (Some x) None c bs cs all e p q = absurd p
 joined (Some x) (Some y) None bs cs all e p q = absurd q
 joined (Some x) (Some y) (Some z) bs cs all e p q = q ∙ ap (λ l. l ++ cs) p ∙ append_assoc x bs cs ∙ ap (λ l. x ++ l) e
 
-pub returns-in-Number : goal.returns-in-Number
-returns-in-Number g c =
-    rw (c.in-Ok.is, c.in-Number.is) (on_ok_weaker c.put_number.result (joined _ _ _ (48 ∷ 32 ∷ []) (decimal c.in-Number.n) _ (ap (λ (ds : List ℕ). ds ++ 32 ∷ decimal c.in-Number.n) zero) c.in_ok-write_all-in-Ok.ensures.bytes) c.put_number.ensures)
-
-pub returns-in-Literal : goal.returns-in-Literal
-returns-in-Literal g c =
-    rw (c.in-Ok.is, c.in-Literal.is) (on_ok_weaker c.put_number-in-Literal.result (joined _ _ _ (48 ∷ 32 ∷ []) (signed_decimal c.in-Literal.x) _ (ap (λ (ds : List ℕ). ds ++ 32 ∷ signed_decimal c.in-Literal.x) zero) c.in_ok-write_all-in-Ok.ensures.bytes) c.put_number-in-Literal.ensures)
+pub returns-in_ok-write_all-in-Ok : goal.returns-in_ok-write_all-in-Ok
+returns-in_ok-write_all-in-Ok g c =
+    rw c.in-Ok.is (on_ok_weaker c.put_given.result (joined _ _ _ (48 ∷ 32 ∷ []) (signed_decimal (value_of c.in-Ok.given)) _ (ap (λ (ds : List ℕ). ds ++ 32 ∷ signed_decimal (value_of c.in-Ok.given)) zero) c.in_ok-write_all-in-Ok.ensures.bytes) c.put_given.ensures)
 
 pub returns-in_ok-put_number-in-Err : goal.returns-in_ok-put_number-in-Err
 returns-in_ok-put_number-in-Err g c =
