@@ -235,7 +235,7 @@ impl<'a> Command<'a> {
             return Err(LineError::Unreadable);
         }
 
-        let words = Words::of(str::from_utf8(line)?);
+        let words = Words::of(str::from_utf8(line)?)?;
         if words.is_empty() {
             return Ok(None);
         }
