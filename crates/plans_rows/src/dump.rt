@@ -1,8 +1,10 @@
 // What `dump` says: the number 0, and the nodes in use that lie in the row, joined by ` ; `.
-ghost use Rattle.std.specs.Prelude.{◌≡◌, take, drop};
+ghost use Rattle.std.specs.Prelude.{◌≡◌, ◌∷◌, ◌++◌, take, drop};
+ghost use Rattle.std.specs.Fmt.{decimal, signed_decimal};
 
 use crate::Db;
 use crate::db::front;
+use arrayvec::ArrayString;
 use itoa::{Buffer, Integer};
 use paper::{NODE_WORDS, Node};
 use std::fmt;
@@ -19,6 +21,23 @@ fn part<T>(row: &[T], first: usize, count: usize) -> &[T]
 fn fmt_number<W: fmt::Write, I: Integer>(f: &mut fmt::Formatter<W>, n: I) -> fmt::Result {
     let mut digits = Buffer::new();
     f.write_str(digits.format(n))
+}
+
+// A cell is put together and written at once, since a write costs more than its bytes.
+const CELL: usize = 32;
+
+fn cell_text(key: u32, lit: i32, mark: u8) -> ArrayString<CELL>
+    ensures { result.bytes ≡ 32 ∷ decimal key ++ 58 ∷ signed_decimal lit ++ 58 ∷ decimal mark }
+{
+    let mut text = ArrayString::new();
+    let mut digits = Buffer::new();
+    text.push_str(" ");
+    text.push_str(digits.format(key));
+    text.push_str(":");
+    text.push_str(digits.format(lit));
+    text.push_str(":");
+    text.push_str(digits.format(mark));
+    text
 }
 
 impl Db {
@@ -57,12 +76,7 @@ impl Db {
         let lits = part(front(&self.lits, lent.lits), first, count);
         let marks = part(front(&self.marks, lent.marks), first, count);
         for ((key, lit), mark) in keys.iter().zip(lits).zip(marks) {
-            f.write_str(" ")?;
-            fmt_number(f, *key)?;
-            f.write_str(":")?;
-            fmt_number(f, *lit)?;
-            f.write_str(":")?;
-            fmt_number(f, *mark)?;
+            f.write_str(cell_text(*key, *lit, *mark).as_str())?;
         }
         Ok(())
     }
