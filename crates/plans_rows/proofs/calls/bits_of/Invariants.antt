@@ -1,4 +1,4 @@
-use Rattle.std.proofs.Common.{◌≡◌, ◌-◌, ◌≤◌, map, take, length, ℕ}
+use Rattle.std.proofs.Common.{◌≡◌, ◌-◌, map, take, length}
 use Rattle.plans_rows.proofs.calls.bits_of.Given as goal
 
 abbrev pub invariant-loop-i : goal.invariant-loop-i
