@@ -1,5 +1,6 @@
 // What `dump` says: the number 0, and the nodes in use that lie in the row, joined by ` ; `.
-ghost use Rattle.std.specs.Prelude.{◌≡◌, ◌∷◌, ◌++◌, take, drop};
+ghost use Rattle.std.specs.Prelude.{◌≡◌, ◌+◌, ◌≤◌, ◌∷◌, ◌++◌, take, drop, OnOk};
+ghost use Rattle.arrayvec.specs.ArrayString.{array_string_len};
 ghost use Rattle.std.specs.Fmt.{decimal, signed_decimal};
 
 use crate::Db;
@@ -23,13 +24,17 @@ fn fmt_number<W: fmt::Write, I: Integer>(f: &mut fmt::Formatter<W>, n: I) -> fmt
     f.write_str(digits.format(n))
 }
 
-// A cell is put together and written at once, since a write costs more than its bytes.
-const CELL: usize = 32;
+// Cells are put together and written some at a time, since a write costs more than the bytes of one.
+const PAGE: usize = 1024;
 
-fn cell_text(key: u32, lit: i32, mark: u8) -> ArrayString<CELL>
-    ensures { result.bytes ≡ 32 ∷ decimal key ++ 58 ∷ signed_decimal lit ++ 58 ∷ decimal mark }
+// No cell takes more.
+const CELL: usize = 27;
+
+fn push_cell(text: &mut ArrayString<PAGE>, key: u32, lit: i32, mark: u8)
+    requires { array_string_len text.old + CELL ≤ PAGE }
+    ensures { text.new.bytes
+        ≡ text.old.bytes ++ 32 ∷ decimal key ++ 58 ∷ signed_decimal lit ++ 58 ∷ decimal mark }
 {
-    let mut text = ArrayString::new();
     let mut digits = Buffer::new();
     text.push_str(" ");
     text.push_str(digits.format(key));
@@ -37,7 +42,17 @@ fn cell_text(key: u32, lit: i32, mark: u8) -> ArrayString<CELL>
     text.push_str(digits.format(lit));
     text.push_str(":");
     text.push_str(digits.format(mark));
-    text
+}
+
+// Writes the page where it has no room for a cell more.
+fn make_room<W: fmt::Write>(f: &mut fmt::Formatter<W>, text: &mut ArrayString<PAGE>) -> fmt::Result
+    ensures { OnOk result (array_string_len text.new + CELL ≤ PAGE) }
+{
+    if text.remaining_capacity() < CELL {
+        f.write_str(text.as_str())?;
+        text.clear();
+    }
+    Ok(())
 }
 
 impl Db {
@@ -75,10 +90,12 @@ impl Db {
         let keys = part(front(&self.keys, lent.keys), first, count);
         let lits = part(front(&self.lits, lent.lits), first, count);
         let marks = part(front(&self.marks, lent.marks), first, count);
+        let mut text = ArrayString::new();
         for ((key, lit), mark) in keys.iter().zip(lits).zip(marks) {
-            f.write_str(cell_text(*key, *lit, *mark).as_str())?;
+            make_room(f, &mut text)?;
+            push_cell(&mut text, *key, *lit, *mark);
         }
-        Ok(())
+        f.write_str(text.as_str())
     }
 }
 
