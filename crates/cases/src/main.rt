@@ -2,19 +2,19 @@
 // working area holds at first is no part of an answer: here it is full of other numbers.
 #![tactic(auto)]
 
-use plans_rows::Work;
+use plans::LONGEST;
+use plans_rows::{Db, OWN, Work};
+use plans_turns::{BUFFER, Filling, Unfailing, play};
 use std::io;
 use std::io::{BufReader, BufWriter};
 
+// All memory is taken before the first line is read.
 fn main(rt: HostRuntime) -> io::Result<()> {
     let alloc = rt.alloc();
-    let mut input = BufReader::new(alloc, rt.reader())?;
-    let mut out = BufWriter::new(alloc, io::writer(&rt))?;
-    plans_turns::play(
-        alloc,
-        &mut input,
-        &mut out,
-        Work { int: 77, byte: 88 },
-        true,
-    )
+    let mut db = Db::new(alloc, OWN, Work { int: 77, byte: 88 })?;
+    let mut line = Vec::with_capacity(alloc, LONGEST + 1)?;
+    let mut input = BufReader::with_capacity(alloc, BUFFER, Filling::new(rt.reader()))?;
+    let mut out = BufWriter::with_capacity(alloc, BUFFER, Unfailing::new(io::writer(&rt)))?;
+    play(&mut db, &mut line, &mut input, &mut out, true);
+    Ok(())
 }

@@ -1,2 +1,3 @@
 pub mod Commands
 pub mod Heads
+pub mod Words

@@ -3,8 +3,8 @@ ghost use Rattle.std.specs.Prelude.{◌≡◌, ◌≢◌, ◌<◌, ◌↔◌, Is
 ghost use Rattle.plans.specs.Commands.{Fit, direction_of};
 
 use crate::number;
+use crate::words::Words;
 use paper::{Pair, Semantics};
-use std::alloc::{AllocError, Global};
 use std::num::ParseIntError;
 use std::str;
 use std::str::{FromStr, Utf8Error};
@@ -16,7 +16,6 @@ pub const LONGEST: usize = 65536;
 #[derive(Clone, Copy, Debug, PartialEq, Eq)]
 pub enum LineError {
     Unreadable,
-    OutOfMemory,
 }
 
 impl From<Utf8Error> for LineError {
@@ -28,12 +27,6 @@ impl From<Utf8Error> for LineError {
 impl From<ParseIntError> for LineError {
     fn from(_error: ParseIntError) -> LineError {
         LineError::Unreadable
-    }
-}
-
-impl From<AllocError> for LineError {
-    fn from(_error: AllocError) -> LineError {
-        LineError::OutOfMemory
     }
 }
 
@@ -113,8 +106,8 @@ pub enum Counter {
 }
 
 // A public call of document 01.
-#[derive(Drop)]
-pub enum Call {
+#[derive(Clone, Copy)]
+pub enum Call<'a> {
     Fresh(usize, usize),
     Leaf(i32),
     Dummy,
@@ -124,15 +117,15 @@ pub enum Call {
     Reserve(usize),
     Reset,
     Clear,
-    // The node, and the assignment, a byte for each variable.
-    Value(usize, Vec<u8>),
+    // The node, and the assignment, a digit of the line for each variable.
+    Value(usize, &'a [u8]),
     Check,
 }
 
 // A call, or what is for the plans alone.
-#[derive(Drop)]
-pub enum Command {
-    Call(Call),
+#[derive(Clone, Copy)]
+pub enum Command<'a> {
+    Call(Call<'a>),
     Rows(Lengths),
     // The index, and what is written there.
     Poke(usize, Entry),
@@ -189,17 +182,18 @@ fn semantics_of(direction: &str) -> Result<Semantics, LineError>
     }
 }
 
-// The digits as bytes.
-fn bits_of(alloc: Global, digits: &str) -> Result<Vec<u8>, LineError> {
-    if !digits.bytes().all(|b| b.is_ascii_digit()) {
-        return Err(LineError::Unreadable);
+// The bits of `value` are digits, one for each variable.
+fn digits_of(word: &str) -> Result<&[u8], LineError> {
+    let digits = word.as_bytes();
+    if digits.iter().all(|b| b.is_ascii_digit()) {
+        Ok(digits)
+    } else {
+        Err(LineError::Unreadable)
     }
-    let bits = digits.bytes().map(|b| b.saturating_sub(b'0'));
-    Ok(bits.collect(alloc)?)
 }
 
-impl Call {
-    fn from_words(alloc: Global, words: &[&str]) -> Result<Call, LineError> {
+impl<'a> Call<'a> {
+    fn from_words(words: &[&'a str]) -> Result<Call<'a>, LineError> {
         match *words {
             ["fresh", first, last] => Ok(Call::Fresh(number(first)?, number(last)?)),
             ["leaf", x] => Ok(Call::Leaf(number(x)?)),
@@ -219,17 +213,17 @@ impl Call {
             ["reserve", id] => Ok(Call::Reserve(number(id)?)),
             ["reset"] => Ok(Call::Reset),
             ["clear"] => Ok(Call::Clear),
-            ["value", id] => Ok(Call::Value(number(id)?, Vec::new(alloc))),
-            ["value", id, digits] => Ok(Call::Value(number(id)?, bits_of(alloc, digits)?)),
+            ["value", id] => Ok(Call::Value(number(id)?, &[])),
+            ["value", id, digits] => Ok(Call::Value(number(id)?, digits_of(digits)?)),
             ["check"] => Ok(Call::Check),
             _ => Err(LineError::Unreadable),
         }
     }
 }
 
-impl Command {
+impl<'a> Command<'a> {
     // The command of a line, without what ends the line. An empty line and a comment have none.
-    pub fn parse(alloc: Global, line: &[u8]) -> Result<Option<Command>, LineError>
+    pub fn parse(line: &'a [u8]) -> Result<Option<Command<'a>>, LineError>
         ensures comment { slice_get line.now 0 ≡ Some 35 → result ≡ Ok None }
         ensures too_long { slice_get line.now 0 ≢ Some 35 → LONGEST < length line.now
             → result ≡ Err LineError.Unreadable }
@@ -241,24 +235,20 @@ impl Command {
             return Err(LineError::Unreadable);
         }
 
-        // A carriage return is the end of a line that ends in two bytes.
-        let words: Vec<&str> = str::from_utf8(line)?
-            .split([' ', '\t', '\r'])
-            .filter(|word| !word.is_empty())
-            .collect(alloc)?;
+        let words = Words::of(str::from_utf8(line)?)?;
         if words.is_empty() {
             return Ok(None);
         }
-        Ok(Some(Command::from_words(alloc, &words)?))
+        Ok(Some(Command::from_words(words.as_slice())?))
     }
 
-    fn from_words(alloc: Global, words: &[&str]) -> Result<Command, LineError> {
+    fn from_words(words: &[&'a str]) -> Result<Command<'a>, LineError> {
         match *words {
             ["rows", ref lengths @ ..] => Ok(Command::Rows(Lengths::try_from(lengths)?)),
             ["poke", row, i, value] => Ok(Command::Poke(number(i)?, Entry::parse(row, value)?)),
             ["set", counter, value] => Ok(Command::Set(counter.parse()?, number(value)?)),
             ["dump"] => Ok(Command::Dump),
-            _ => Ok(Command::Call(Call::from_words(alloc, words)?)),
+            _ => Ok(Command::Call(Call::from_words(words)?)),
         }
     }
 }

@@ -5,6 +5,7 @@
 mod answer;
 mod command;
 mod decimal;
+mod words;
 
 pub use answer::{Answer, Given, Said};
 pub use command::{Call, Command, Counter, Entry, LONGEST, Lengths, LineError};

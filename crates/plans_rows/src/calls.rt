@@ -1,13 +1,25 @@
 // The public calls of document 01, on the rows.
-ghost use Rattle.std.specs.Prelude.{◌≡◌};
+ghost use Rattle.std.specs.Prelude.{◌≡◌, ◌-◌, length, map, take};
 
 use crate::Db;
+use crate::db::{front, front_mut};
 use paper::{Pair, Semantics};
 use plans::{Answer, Call, Said};
 
+// The digits as bytes, as many as the row holds.
+fn bits_of<'a>(digits: &[u8], bits: &'a mut [u8]) -> &'a [u8]
+    ensures { result.now ≡ map (λ d. d - 48) (take (length bits.old) digits.now) }
+{
+    let most = digits.len().min(bits.len());
+    for i in 0..most {
+        bits[i] = digits[i].saturating_sub(b'0');
+    }
+    &bits[..most]
+}
+
 impl Db {
     // What the call says; the counters are those after it.
-    pub fn call(&mut self, call: Call) -> Said
+    pub fn call(&mut self, call: Call<'_>) -> Said
         ensures { self.new.counters ≡ result.counters }
     {
         let said = self.called(call);
@@ -15,7 +27,7 @@ impl Db {
         said
     }
 
-    fn called(&mut self, call: Call) -> Said {
+    fn called(&mut self, call: Call<'_>) -> Said {
         match call {
             Call::Fresh(first, last) => door::fresh(first, last).said(self.counters),
             Call::Leaf(x) => self.leaf(x),
@@ -26,20 +38,20 @@ impl Db {
             Call::Reserve(id) => self.reserve_vars(id),
             Call::Reset => self.reset(),
             Call::Clear => self.empty_clauses(),
-            Call::Value(id, assign) => self.value(id, &assign),
+            Call::Value(id, digits) => self.value(id, digits),
             Call::Check => self.check(),
         }
     }
 
     fn leaf(&mut self, x: i32) -> Said {
-        let c = self.counters;
+        let (c, n) = (self.counters, self.lent);
         door::leaf(
-            &mut self.nodes,
-            &mut self.inputs,
-            &self.keys,
-            &self.lits,
-            &self.marks,
-            &self.clauses,
+            front_mut(&mut self.nodes, n.nodes),
+            front_mut(&mut self.inputs, n.inputs),
+            front(&self.keys, n.keys),
+            front(&self.lits, n.lits),
+            front(&self.marks, n.marks),
+            front(&self.clauses, n.clauses),
             c,
             x,
         )
@@ -47,28 +59,28 @@ impl Db {
     }
 
     fn dummy(&mut self) -> Said {
-        let c = self.counters;
+        let (c, n) = (self.counters, self.lent);
         door::dummy(
-            &mut self.nodes,
-            &self.inputs,
-            &self.keys,
-            &self.lits,
-            &self.marks,
-            &self.clauses,
+            front_mut(&mut self.nodes, n.nodes),
+            front(&self.inputs, n.inputs),
+            front(&self.keys, n.keys),
+            front(&self.lits, n.lits),
+            front(&self.marks, n.marks),
+            front(&self.clauses, n.clauses),
             c,
         )
         .said(c)
     }
 
     fn inner(&mut self, j: Pair) -> Said {
-        let c = self.counters;
+        let (c, n) = (self.counters, self.lent);
         door::inner(
-            &mut self.nodes,
-            &self.inputs,
-            &mut self.keys,
-            &mut self.lits,
-            &mut self.marks,
-            &self.clauses,
+            front_mut(&mut self.nodes, n.nodes),
+            front(&self.inputs, n.inputs),
+            front_mut(&mut self.keys, n.keys),
+            front_mut(&mut self.lits, n.lits),
+            front_mut(&mut self.marks, n.marks),
+            front(&self.clauses, n.clauses),
             c,
             j,
         )
@@ -76,16 +88,16 @@ impl Db {
     }
 
     fn define_unweighted(&mut self, id: usize, i: usize, semantics: Semantics) -> Said {
-        let c = self.counters;
+        let (c, n) = (self.counters, self.lent);
         door::define_unweighted(
-            &self.nodes,
-            &self.inputs,
-            &self.keys,
-            &mut self.lits,
-            &mut self.marks,
-            &mut self.clauses,
-            &mut self.ints,
-            &mut self.bytes,
+            front(&self.nodes, n.nodes),
+            front(&self.inputs, n.inputs),
+            front(&self.keys, n.keys),
+            front_mut(&mut self.lits, n.lits),
+            front_mut(&mut self.marks, n.marks),
+            front_mut(&mut self.clauses, n.clauses),
+            front_mut(&mut self.ints, n.ints),
+            front_mut(&mut self.bytes, n.bytes),
             c,
             id,
             i,
@@ -95,16 +107,16 @@ impl Db {
     }
 
     fn define_weighted(&mut self, id: usize, v: usize) -> Said {
-        let c = self.counters;
+        let (c, n) = (self.counters, self.lent);
         door::define_weighted(
-            &self.nodes,
-            &self.inputs,
-            &self.keys,
-            &mut self.lits,
-            &mut self.marks,
-            &mut self.clauses,
-            &mut self.ints,
-            &mut self.bytes,
+            front(&self.nodes, n.nodes),
+            front(&self.inputs, n.inputs),
+            front(&self.keys, n.keys),
+            front_mut(&mut self.lits, n.lits),
+            front_mut(&mut self.marks, n.marks),
+            front_mut(&mut self.clauses, n.clauses),
+            front_mut(&mut self.ints, n.ints),
+            front_mut(&mut self.bytes, n.bytes),
             c,
             id,
             v,
@@ -113,16 +125,16 @@ impl Db {
     }
 
     fn reserve_vars(&mut self, root: usize) -> Said {
-        let c = self.counters;
+        let (c, n) = (self.counters, self.lent);
         door::reserve_vars(
-            &self.nodes,
-            &self.inputs,
-            &self.keys,
-            &mut self.lits,
-            &self.marks,
-            &self.clauses,
-            &mut self.ints,
-            &mut self.bytes,
+            front(&self.nodes, n.nodes),
+            front(&self.inputs, n.inputs),
+            front(&self.keys, n.keys),
+            front_mut(&mut self.lits, n.lits),
+            front(&self.marks, n.marks),
+            front(&self.clauses, n.clauses),
+            front_mut(&mut self.ints, n.ints),
+            front_mut(&mut self.bytes, n.bytes),
             c,
             root,
         )
@@ -130,44 +142,45 @@ impl Db {
     }
 
     fn reset(&mut self) -> Said {
-        let c = self.counters;
+        let (c, n) = (self.counters, self.lent);
         door::reset(
-            &self.nodes,
-            &self.inputs,
-            &self.keys,
-            &self.lits,
-            &mut self.marks,
-            &self.clauses,
+            front(&self.nodes, n.nodes),
+            front(&self.inputs, n.inputs),
+            front(&self.keys, n.keys),
+            front(&self.lits, n.lits),
+            front_mut(&mut self.marks, n.marks),
+            front(&self.clauses, n.clauses),
             c,
         )
         .said(c)
     }
 
     fn empty_clauses(&self) -> Said {
-        let c = self.counters;
+        let (c, n) = (self.counters, self.lent);
         door::empty_clauses(
-            &self.nodes,
-            &self.inputs,
-            &self.keys,
-            &self.lits,
-            &self.marks,
-            &self.clauses,
+            front(&self.nodes, n.nodes),
+            front(&self.inputs, n.inputs),
+            front(&self.keys, n.keys),
+            front(&self.lits, n.lits),
+            front(&self.marks, n.marks),
+            front(&self.clauses, n.clauses),
             c,
         )
         .said(c)
     }
 
-    fn value(&mut self, id: usize, assign: &[u8]) -> Said {
-        let c = self.counters;
+    fn value(&mut self, id: usize, digits: &[u8]) -> Said {
+        let (c, n) = (self.counters, self.lent);
+        let assign = bits_of(digits, &mut self.bits);
         door::value(
-            &self.nodes,
-            &self.inputs,
-            &self.keys,
-            &self.lits,
-            &self.marks,
-            &self.clauses,
-            &mut self.ints,
-            &mut self.bytes,
+            front(&self.nodes, n.nodes),
+            front(&self.inputs, n.inputs),
+            front(&self.keys, n.keys),
+            front(&self.lits, n.lits),
+            front(&self.marks, n.marks),
+            front(&self.clauses, n.clauses),
+            front_mut(&mut self.ints, n.ints),
+            front_mut(&mut self.bytes, n.bytes),
             c,
             id,
             assign,
@@ -176,14 +189,14 @@ impl Db {
     }
 
     fn check(&self) -> Said {
-        let c = self.counters;
+        let (c, n) = (self.counters, self.lent);
         door::check(
-            &self.nodes,
-            &self.inputs,
-            &self.keys,
-            &self.lits,
-            &self.marks,
-            &self.clauses,
+            front(&self.nodes, n.nodes),
+            front(&self.inputs, n.inputs),
+            front(&self.keys, n.keys),
+            front(&self.lits, n.lits),
+            front(&self.marks, n.marks),
+            front(&self.clauses, n.clauses),
             c,
         )
         .said(c)

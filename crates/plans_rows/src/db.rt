@@ -1,8 +1,9 @@
-// The rows, each as long as it is lent, with the counters; and the commands that are for the plans alone: `rows`, `poke`, `set`.
-ghost use Rattle.std.specs.Prelude.{◌≡◌, ◌<◌, ◌≤◌, ◌↔◌, IsOk, IfOk, OnOk, OnErr, length, vec_len, slice_set};
+// The rows, of which the fronts are lent, with the counters; and the commands that are for the plans alone: `rows`, `poke`,
+// `set`. Memory is taken once, when the rows are made.
+ghost use Rattle.std.specs.Prelude.{◌≡◌, ◌<◌, ◌≤◌, ◌↔◌, IsOk, IfOk, OnOk, OnErr, length, min, replicate, take, slice_set};
 
 use paper::{CELL_LIMIT, Counters, NODE_LIMIT, NODE_WORDS};
-use plans::{Counter, Entry, Lengths, LineError};
+use plans::{Counter, Entry, LONGEST, Lengths, LineError};
 use std::alloc::{AllocError, Global};
 
 // The longest rows: one node, input and cell longer than the limits, so that it is a limit that refuses.
@@ -24,6 +25,7 @@ pub struct Work {
     pub byte: u8,
 }
 
+// A longer row than is lent keeps what lies past its front, which no call and no command sees.
 #[derive(Drop)]
 pub struct Db {
     pub nodes: Vec<u32>,
@@ -34,8 +36,11 @@ pub struct Db {
     pub clauses: Vec<i32>,
     pub ints: Vec<i32>,
     pub bytes: Vec<u8>,
+    // The assignment of `value`, a byte for each digit of its line.
+    pub bits: Vec<u8>,
+    // How much of each row is lent.
+    pub lent: Lengths,
     pub counters: Counters,
-    pub work: Work,
 }
 
 const AT_START: Counters = Counters {
@@ -48,13 +53,37 @@ const AT_START: Counters = Counters {
     words: 0,
 };
 
-fn put<T: Drop>(row: &mut [T], i: usize, x: T) -> Result<(), LineError>
+// The first n entries, or all where there are fewer.
+pub(crate) fn front<T>(row: &[T], n: usize) -> &[T]
+    ensures { result.now ≡ take n row.now }
+{
+    row.get(..n).unwrap_or(row)
+}
+
+// The same, to write.
+pub(crate) fn front_mut<T>(row: &mut [T], n: usize) -> &mut [T]
+    ensures { result.now ≡ take n row.old }
+{
+    let most = n.min(row.len());
+    &mut row[..most]
+}
+
+fn clear<T: Clone>(row: &mut [T], n: usize, zero: T)
+    requires { T.is_infallible zero }
+    ensures len { length row.new ≡ length row.old }
+    ensures zeros { ((x : T) → T.is_clone zero x → x ≡ zero) → n ≤ length row.old → take n row.new ≡ replicate n zero }
+{
+    let most = n.min(row.len());
+    row[..most].fill(zero);
+}
+
+fn put<T: Drop>(row: &mut [T], lent: usize, i: usize, x: T) -> Result<(), LineError>
     ensures ok { OnOk result (row.new ≡ slice_set row.old i x) }
     ensures err { OnErr result (row.new ≡ row.old) }
-    ensures inside { IsOk result ↔ (i < length row.old) }
+    ensures inside { IsOk result ↔ (i < min lent (length row.old)) }
 {
     // Through `get_mut` the clauses do not close.
-    if i >= row.len() {
+    if i >= lent.min(row.len()) {
         return Err(LineError::Unreadable);
     }
     row[i] = x;
@@ -74,9 +103,9 @@ fn within(len: usize, own: usize) -> Result<usize, LineError>
 
 impl Db {
     ghost use Rattle.plans.specs.Commands.{Fit};
-    ghost use Rattle.plans_rows.specs.Rows.{lengths_of, at_start, counted, Holds};
+    ghost use Rattle.plans_rows.specs.Rows.{lengths_of, whole, at_start, counted, Holds, Cleared};
 
-    // Rows and counters all 0.
+    // Rows and counters all 0, and the whole of each row lent.
     pub fn new(alloc: Global, n: Lengths, work: Work) -> Result<Db, AllocError>
         ensures lengths { IfOk result (λ db. lengths_of db ≡ n) }
         ensures counters { IfOk result (λ db. db.counters ≡ at_start) }
@@ -90,21 +119,45 @@ impl Db {
             clauses: vec![in alloc; 0; n.clauses]?,
             ints: vec![in alloc; work.int; n.ints]?,
             bytes: vec![in alloc; work.byte; n.bytes]?,
+            bits: vec![in alloc; 0; LONGEST]?,
+            lent: n,
             counters: AT_START,
-            work,
         })
     }
 
-    // Rows of other lengths, in place of these.
-    pub fn lend(&mut self, alloc: Global, n: Lengths) -> Result<(), LineError>
+    fn lengths(&self) -> Lengths
+        ensures { result ≡ whole self.now }
+    {
+        Lengths {
+            nodes: self.nodes.len(),
+            inputs: self.inputs.len(),
+            keys: self.keys.len(),
+            lits: self.lits.len(),
+            marks: self.marks.len(),
+            clauses: self.clauses.len(),
+            ints: self.ints.len(),
+            bytes: self.bytes.len(),
+        }
+    }
+
+    // Other lengths of the same rows, all 0. What the working area holds stays as it is.
+    pub fn lend(&mut self, n: Lengths) -> Result<(), LineError>
         ensures ok { OnOk result (lengths_of self.new ≡ n) }
-        ensures inside { OnOk result (Fit n OWN) }
+        ensures cleared { OnOk result (Cleared self.new) }
+        ensures inside { IsOk result ↔ (Fit n OWN × Fit n (whole self.old)) }
         ensures err { OnErr result (self.new ≡ self.old) }
     {
-        if !n.fit(OWN) {
+        if !n.fit(OWN) || !n.fit(self.lengths()) {
             return Err(LineError::Unreadable);
         }
-        *self = Db::new(alloc, n, self.work)?;
+        clear(&mut self.nodes, n.nodes, 0);
+        clear(&mut self.inputs, n.inputs, 0);
+        clear(&mut self.keys, n.keys, 0);
+        clear(&mut self.lits, n.lits, 0);
+        clear(&mut self.marks, n.marks, 0);
+        clear(&mut self.clauses, n.clauses, 0);
+        self.lent = n;
+        self.counters = AT_START;
         Ok(())
     }
 
@@ -113,13 +166,14 @@ impl Db {
         ensures lengths { lengths_of self.new ≡ lengths_of self.old }
         ensures counters { self.new.counters ≡ self.old.counters }
     {
+        let lent = self.lent;
         match entry {
-            Entry::Words(x) => put(&mut self.nodes, i, x),
-            Entry::Inputs(x) => put(&mut self.inputs, i, x),
-            Entry::Keys(x) => put(&mut self.keys, i, x),
-            Entry::Lits(x) => put(&mut self.lits, i, x),
-            Entry::Marks(x) => put(&mut self.marks, i, x),
-            Entry::Clauses(x) => put(&mut self.clauses, i, x),
+            Entry::Words(x) => put(&mut self.nodes, lent.nodes, i, x),
+            Entry::Inputs(x) => put(&mut self.inputs, lent.inputs, i, x),
+            Entry::Keys(x) => put(&mut self.keys, lent.keys, i, x),
+            Entry::Lits(x) => put(&mut self.lits, lent.lits, i, x),
+            Entry::Marks(x) => put(&mut self.marks, lent.marks, i, x),
+            Entry::Clauses(x) => put(&mut self.clauses, lent.clauses, i, x),
         }
     }
 
@@ -134,14 +188,15 @@ impl Db {
             Counter::Ins => self.counters.inputs = v,
             Counter::Cells => self.counters.cells = v,
             Counter::Length => self.counters.words = v,
-            Counter::WorkInt => self.ints.resize(within(v, OWN.ints)?, self.work.int)?,
-            Counter::WorkByte => self.bytes.resize(within(v, OWN.bytes)?, self.work.byte)?,
+            Counter::WorkInt => self.lent.ints = within(v, OWN.ints.min(self.ints.len()))?,
+            Counter::WorkByte => self.lent.bytes = within(v, OWN.bytes.min(self.bytes.len()))?,
         }
         Ok(())
     }
 
     // The words of the clause row from `from` on that are in use.
     pub fn clause_words(&self, from: usize) -> &[i32] {
-        self.clauses.get(from..self.counters.words).unwrap_or(&[])
+        let lent = front(&self.clauses, self.lent.clauses);
+        lent.get(from..self.counters.words).unwrap_or(&[])
     }
 }

@@ -1,48 +1,25 @@
 // A plan carried out: each line of the input, and an answer for each on the output.
 #![tactic(auto)]
 
-ghost use Rattle.std.specs.Prelude.{◌≡◌, ◌++◌, ◌∷◌, [], true, false, take, codes, OnOk};
-ghost use Rattle.std.specs.Io.KnownBytes.{Appends};
+mod answers;
+mod streams;
 
-use plans::{Command, LONGEST, LineError};
-use plans_rows::{Db, OWN, Work};
-use std::alloc::Global;
-use std::fmt::Display;
+use answers::{put_call, put_done, put_dump, put_line};
+use plans::{Command, LONGEST};
+use plans_rows::Db;
 use std::io;
 use std::io::{BufRead, Read, Write};
+pub use streams::{BUFFER, Filling, Unfailing};
 
-// An answer is what is said, the words that the call appended to the clause row, and the next variable.
-fn put<W: Write, D: Display + Drop>(
-    out: &mut W,
-    said: D,
-    words: &[i32],
-    next: usize,
-) -> io::Result<()> {
-    write!(out, "{said} |")?;
-    for x in words {
-        write!(out, " {x}")?;
-    }
-    writeln!(out, " | {next}")
-}
-
-// The answer to a command that gives nothing back.
-fn put_done<W: Write>(out: &mut W, done: Result<(), LineError>, next: usize) -> io::Result<()> {
-    match done {
-        Ok(()) => put(out, "0 0", &[], next),
-        Err(LineError::Unreadable) => put(out, "bad", &[], next),
-        Err(LineError::OutOfMemory) => Err(io::Error::from(io::ErrorKind::OutOfMemory)),
-    }
-}
-
-fn turn<W: Write>(alloc: Global, db: &mut Db, command: Command, out: &mut W) -> io::Result<()> {
+fn turn<W: Write>(db: &mut Db, command: Command<'_>, out: &mut W) -> io::Result<()> {
     let done = match command {
         Command::Call(call) => {
             let before = db.counters.words;
             let said = db.call(call);
-            return put(out, said, db.clause_words(before), db.counters.next);
+            return put_call(out, said, db.clause_words(before), db.counters.next);
         }
-        Command::Dump => return put(out, &*db, &[], db.counters.next),
-        Command::Rows(lengths) => db.lend(alloc, lengths),
+        Command::Dump => return put_dump(out, db),
+        Command::Rows(lengths) => db.lend(lengths),
         Command::Poke(i, entry) => db.poke(i, entry),
         Command::Set(counter, v) => db.set(counter, v),
     };
@@ -66,61 +43,38 @@ fn next_line<R: BufRead>(input: &mut R, line: &mut Vec<u8>) -> bool {
     true
 }
 
-// The first n bytes, or all where there are fewer.
-fn front(line: &[u8], n: usize) -> &[u8]
-    ensures { result.now ≡ take n line.now }
-{
-    line.get(..n).unwrap_or(line)
-}
-
-// The line itself, before its answer. One that is passed over has none.
-fn put_line<W: Write>(out: &mut W, line: &[u8], answered: bool) -> io::Result<()>
-    ensures answered { answered ≡ true → OnOk result (Appends (W.contents out.old) (W.contents out.new)
-        (take LONGEST line.now ++ codes " => ")) }
-    ensures passed { answered ≡ false → OnOk result (Appends (W.contents out.old) (W.contents out.new)
-        (take LONGEST line.now ++ 10 ∷ [])) }
-{
-    out.write_all(front(line, LONGEST))?;
-    if answered {
-        out.write_all(b" => ")
-    } else {
-        out.write_all(b"\n")
-    }
-}
-
-// An answer for each line; `beside` has each line stand before its answer. Before the first `rows` or `fresh` the rows are
-// as long as they can be, and the counters are 0.
+// An answer for each line, to the end of the input; `beside` has each line stand before its answer. What cannot be written is
+// passed over. `line` holds a line at a time, and grows only where its capacity is not `LONGEST + 1` yet. Before the first
+// `rows` or `fresh` the rows are as long as they were made, and the counters are 0.
 pub fn play<R: BufRead, W: Write>(
-    alloc: Global,
+    db: &mut Db,
+    line: &mut Vec<u8>,
     input: &mut R,
     out: &mut W,
-    work: Work,
     beside: bool,
-) -> io::Result<()> {
-    let mut db = Db::new(alloc, OWN, work)?;
-    let mut line = Vec::with_capacity(alloc, LONGEST + 1)?;
-
+) {
     // Nothing says that the input ends, and a proved loop has to: no input has more lines than this.
     for _ in 0..u64::MAX {
-        if !next_line(input, &mut line) {
+        if !next_line(input, line) {
             break;
         }
-        let command = Command::parse(alloc, &line);
+        let command = Command::parse(line);
         if beside {
-            put_line(out, &line, !matches!(command, Ok(None)))?;
+            let _ = put_line(out, line, !matches!(command, Ok(None)));
         }
-        match command {
-            Ok(None) => {}
-            Ok(Some(command)) => turn(alloc, &mut db, command, out)?,
-            Err(error) => put_done(out, Err(error), db.counters.next)?,
-        }
+        let _ = match command {
+            Ok(None) => Ok(()),
+            Ok(Some(command)) => turn(db, command, out),
+            Err(error) => put_done(out, Err(error), db.counters.next),
+        };
     }
-    out.flush()
+    let _ = out.flush();
 }
 
 #[cfg(test)]
 mod tests {
     use super::*;
+    use plans_rows::{OWN, Work};
     use std::str;
     use std::test::Fail;
 
@@ -141,8 +95,9 @@ mod tests {
         let alloc = rt.alloc();
         let mut input = PLAN.as_bytes();
         let mut out = Vec::new(alloc);
-        let work = Work { int: 3, byte: 4 };
-        play(alloc, &mut input, &mut out, work, true)?;
+        let mut db = Db::new(alloc, OWN, Work { int: 3, byte: 4 })?;
+        let mut line = Vec::with_capacity(alloc, LONGEST + 1)?;
+        play(&mut db, &mut line, &mut input, &mut out, true);
         assert_eq!(rt; str::from_utf8(&out)?, BESIDE);
         Ok(())
     }

@@ -2,13 +2,19 @@
 // for each, `NUMBER ANSWER | WORDS | NEXT`, to standard output.
 #![tactic(auto)]
 
-use plans_rows::Work;
+use plans::LONGEST;
+use plans_rows::{Db, OWN, Work};
+use plans_turns::{BUFFER, Filling, Unfailing, play};
 use std::io;
 use std::io::{BufReader, BufWriter};
 
+// All memory is taken before the first line is read.
 fn main(rt: HostRuntime) -> io::Result<()> {
     let alloc = rt.alloc();
-    let mut input = BufReader::new(alloc, rt.reader())?;
-    let mut out = BufWriter::new(alloc, io::writer(&rt))?;
-    plans_turns::play(alloc, &mut input, &mut out, Work { int: 0, byte: 0 }, false)
+    let mut db = Db::new(alloc, OWN, Work { int: 0, byte: 0 })?;
+    let mut line = Vec::with_capacity(alloc, LONGEST + 1)?;
+    let mut input = BufReader::with_capacity(alloc, BUFFER, Filling::new(rt.reader()))?;
+    let mut out = BufWriter::with_capacity(alloc, BUFFER, Unfailing::new(io::writer(&rt)))?;
+    play(&mut db, &mut line, &mut input, &mut out, false);
+    Ok(())
 }
