@@ -5,8 +5,10 @@
 mod answer;
 mod command;
 mod decimal;
+mod text;
 mod words;
 
 pub use answer::{Answer, Given, Said};
 pub use command::{Call, Command, Counter, Entry, LONGEST, Lengths, LineError};
 pub use decimal::number;
+pub use text::{bytes_before, literal_before, number_before};

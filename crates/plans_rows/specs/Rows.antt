@@ -1,6 +1,7 @@
 -- The lengths of the rows and of the fronts that are lent, what `rows` clears, and what `set` and `poke` write.
-use Rattle.std.specs.Prelude.{ℕ, pos, ◌≡◌, Some, min, replicate, take, slice_get, vec_len}
+use Rattle.std.specs.Prelude.{ℕ, pos, ◌≡◌, ◌/◌, Some, min, replicate, take, slice_get, vec_len}
 use Rattle.paper.specs.declared.Counters.{Counters}
+use Rattle.paper.specs.declared.TheConstants.{NODE_WORDS}
 use Rattle.plans.specs.declared.command.Counter.{Counter}
 use Rattle.plans.specs.declared.command.Counter.TheVariants.{First, Next, Last, Nodes, Ins, Cells, Length, WorkInt, WorkByte}
 use Rattle.plans.specs.declared.command.Entry.{Entry}
@@ -33,6 +34,10 @@ lengths_of db = record {
   ints = min db.lent.ints (vec_len db.ints);
   bytes = min db.lent.bytes (vec_len db.bytes);
 }
+
+-- the nodes in use that lie in the front of their row
+abbrev pub node_count : Db → ℕ
+node_count db = min db.counters.nodes (min db.lent.nodes (vec_len db.nodes) / NODE_WORDS)
 
 abbrev pub at_start : Counters
 at_start = record { first = 0; next = 0; last = 0; nodes = 0; inputs = 0; cells = 0; words = 0 }

@@ -1,14 +1,14 @@
 // What `dump` says: the number 0, and the nodes in use that lie in the row, joined by ` ; `.
-ghost use Rattle.std.specs.Prelude.{◌≡◌, ◌+◌, ◌≤◌, ◌∷◌, ◌++◌, take, drop, OnOk};
-ghost use Rattle.arrayvec.specs.ArrayString.{array_string_len};
-ghost use Rattle.std.specs.Fmt.{decimal, signed_decimal};
+ghost use Rattle.std.specs.Prelude.{◌≡◌, ◌+◌, ◌≤◌, ◌++◌, take, drop, length, IsAscii};
+ghost use Rattle.plans_rows.specs.Dump.{cell_text, cells_text};
+ghost use Rattle.plans_rows.specs.Rows.{node_count};
 
 use crate::Db;
 use crate::db::front;
-use arrayvec::ArrayString;
 use itoa::{Buffer, Integer};
 use paper::{NODE_WORDS, Node};
-use std::fmt;
+use plans::{bytes_before, literal_before, number_before};
+use std::{fmt, str};
 
 // The entries from `first` on, as many as `count` where there are as many.
 fn part<T>(row: &[T], first: usize, count: usize) -> &[T]
@@ -18,44 +18,62 @@ fn part<T>(row: &[T], first: usize, count: usize) -> &[T]
     rest.get(..count).unwrap_or(rest)
 }
 
-// As `{n}`, at a fourth of the cost: a large table has a number for each entry of its rows.
+// As `{n}`, at a fourth of the cost: a large table has many numbers.
 fn fmt_number<W: fmt::Write, I: Integer>(f: &mut fmt::Formatter<W>, n: I) -> fmt::Result {
     let mut digits = Buffer::new();
     f.write_str(digits.format(n))
 }
 
-// Cells are put together and written some at a time, since a write costs more than the bytes of one.
+// Cells are put together from the last to the first, and written some at a time: a write costs more than the bytes of one.
 const PAGE: usize = 1024;
+
+// As many as a page always holds.
+const CELLS: usize = 37;
 
 // No cell takes more.
 const CELL: usize = 27;
 
-fn push_cell(text: &mut ArrayString<PAGE>, key: u32, lit: i32, mark: u8)
-    requires { array_string_len text.old + CELL ≤ PAGE }
-    ensures { text.new.bytes
-        ≡ text.old.bytes ++ 32 ∷ decimal key ++ 58 ∷ signed_decimal lit ++ 58 ∷ decimal mark }
+// The cell, in front of what stands from `at` on. Beside its own room there is that of the longest number, which
+// `number_before` asks for.
+fn cell_before(text: &mut [u8; PAGE], at: usize, key: u32, lit: i32, mark: u8) -> usize
+    requires room { CELL + 20 ≤ at }
+    requires inside { at ≤ PAGE }
+    ensures within { result ≤ at }
+    ensures short { at ≤ result + CELL }
+    ensures written { drop result text.new ≡ cell_text key lit mark ++ drop at text.old }
+    ensures ascii { IsAscii (drop at text.old) → IsAscii (drop result text.new) }
 {
-    let mut digits = Buffer::new();
-    text.push_str(" ");
-    text.push_str(digits.format(key));
-    text.push_str(":");
-    text.push_str(digits.format(lit));
-    text.push_str(":");
-    text.push_str(digits.format(mark));
+    let start = number_before(text, at, mark as u64);
+    let start = bytes_before(text, start, b":");
+    let start = literal_before(text, start, lit);
+    let start = bytes_before(text, start, b":");
+    let start = number_before(text, start, key as u64);
+    bytes_before(text, start, b" ")
 }
 
-// Writes the page where it has no room for a cell more.
-fn make_room<W: fmt::Write>(f: &mut fmt::Formatter<W>, text: &mut ArrayString<PAGE>) -> fmt::Result
-    ensures { OnOk result (array_string_len text.new + CELL ≤ PAGE) }
+// The text of the cells, which stands at the end of the page.
+fn cells_of<'a>(text: &'a mut [u8; PAGE], keys: &[u32], lits: &[i32], marks: &[u8]) -> &'a str
+    requires few { length keys.now ≤ CELLS }
+    requires lits { length lits.now ≡ length keys.now }
+    requires marks { length marks.now ≡ length keys.now }
+    ensures { result.now ≡ cells_text keys.now lits.now marks.now }
 {
-    if text.remaining_capacity() < CELL {
-        f.write_str(text.as_str())?;
-        text.clear();
+    let mut at = PAGE;
+    for i in (0..keys.len()).rev() {
+        at = cell_before(text, at, keys[i], lits[i], marks[i]);
     }
-    Ok(())
+    str::from_utf8(&text[at..]).unwrap()
 }
 
 impl Db {
+    // The nodes in use that lie in the row.
+    pub fn node_count(&self) -> usize
+        ensures { result ≡ node_count self.now }
+    {
+        let nodes = front(&self.nodes, self.lent.nodes);
+        self.counters.nodes.min(nodes.len() / NODE_WORDS)
+    }
+
     // A table that fails the check may have a kind that is none, and inputs and cells that are not in the rows.
     fn fmt_node<W: fmt::Write>(&self, f: &mut fmt::Formatter<W>, node: Node) -> fmt::Result {
         let kind = match node.kind {
@@ -90,12 +108,14 @@ impl Db {
         let keys = part(front(&self.keys, lent.keys), first, count);
         let lits = part(front(&self.lits, lent.lits), first, count);
         let marks = part(front(&self.marks, lent.marks), first, count);
-        let mut text = ArrayString::new();
-        for ((key, lit), mark) in keys.iter().zip(lits).zip(marks) {
-            make_room(f, &mut text)?;
-            push_cell(&mut text, *key, *lit, *mark);
+        let count = keys.len().min(lits.len()).min(marks.len());
+        let mut text = [0; PAGE];
+        for from in (0..count).step_by(CELLS) {
+            let to = count.min(from + CELLS);
+            let (keys, lits, marks) = (&keys[from..to], &lits[from..to], &marks[from..to]);
+            f.write_str(cells_of(&mut text, keys, lits, marks))?;
         }
-        f.write_str(text.as_str())
+        Ok(())
     }
 }
 
@@ -103,7 +123,7 @@ impl fmt::Display for Db {
     fn fmt<W: fmt::Write>(&self, f: &mut fmt::Formatter<W>) -> fmt::Result {
         f.write_str("0")?;
         let nodes = front(&self.nodes, self.lent.nodes);
-        for id in 0..self.counters.nodes.min(nodes.len() / NODE_WORDS) {
+        for id in 0..self.node_count() {
             f.write_str(if id == 0 { " " } else { " ; " })?;
             fmt_number(f, id)?;
             self.fmt_node(f, rows::node_at(nodes, id))?;

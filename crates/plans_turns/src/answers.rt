@@ -3,49 +3,21 @@ ghost use Rattle.std.specs.Prelude.{◌≡◌, ◌+◌, ◌≤◌, ◌++◌, ◌
 ghost use Rattle.std.specs.Fmt.{decimal, signed_decimal};
 ghost use Rattle.std.specs.Io.KnownBytes.{Appends};
 ghost use Rattle.plans.specs.Heads.{head_text, told_of, value_of};
+ghost use Rattle.plans_rows.specs.Rows.{node_count};
 
-use plans::{Given, LONGEST, LineError, Said};
+use plans::{Given, LONGEST, LineError, Said, bytes_before, literal_before, number_before};
 use plans_rows::Db;
-use std::io;
+use std::fmt;
 use std::io::Write;
 
 // The parts of an answer are put together from the last to the first, and written at once: a write costs more than its bytes.
 const ROOM: usize = 64;
 
-// The bytes, in front of what stands from `at` on, and where they start.
-fn bytes_before(text: &mut [u8; ROOM], at: usize, bytes: &[u8]) -> usize
-    requires room { length bytes.now ≤ at }
-    requires inside { at ≤ 64 }
-    ensures start { result + length bytes.now ≡ at }
-    ensures written { drop result text.new ≡ bytes.now ++ drop at text.old }
+// An error of the output takes more room than an answer, and nobody is told of it: that there was one is all that is handed on.
+fn put<W: Write>(out: &mut W, text: &[u8]) -> fmt::Result
+    ensures { OnOk result (Appends (W.contents out.old) (W.contents out.new) text.now) }
 {
-    let start = at - bytes.len();
-    text[start..at].copy_from_slice(bytes);
-    start
-}
-
-fn number_before(text: &mut [u8; ROOM], at: usize, n: u64) -> usize
-    requires room { 20 ≤ at }
-    requires inside { at ≤ 64 }
-    ensures within { result ≤ at }
-    ensures short { at ≤ result + 20 }
-    ensures written { drop result text.new ≡ decimal n ++ drop at text.old }
-{
-    itoa::write_digits(n, text, at)
-}
-
-fn literal_before(text: &mut [u8; ROOM], at: usize, x: i32) -> usize
-    requires room { 21 ≤ at }
-    requires inside { at ≤ 64 }
-    ensures within { result ≤ at }
-    ensures short { at ≤ result + 21 }
-    ensures written { drop result text.new ≡ signed_decimal x ++ drop at text.old }
-{
-    let start = number_before(text, at, x.unsigned_abs() as u64);
-    if x >= 0 {
-        return start;
-    }
-    bytes_before(text, start, b"-")
+    out.write_all(text).map_err(|_| fmt::Error)
 }
 
 fn given_before(text: &mut [u8; ROOM], at: usize, given: Given) -> usize
@@ -82,18 +54,18 @@ fn said_before(text: &mut [u8; ROOM], at: usize, said: Said) -> usize
 }
 
 // The words that a call appended to the clause row.
-fn put_words<W: Write>(out: &mut W, words: &[i32]) -> io::Result<()> {
+fn put_words<W: Write>(out: &mut W, words: &[i32]) -> fmt::Result {
     for x in words {
         let mut text = [0; ROOM];
         let start = literal_before(&mut text, ROOM, *x);
         let start = bytes_before(&mut text, start, b" ");
-        out.write_all(&text[start..])?;
+        put(out, &text[start..])?;
     }
     Ok(())
 }
 
 // The end of an answer: the next variable.
-fn put_next<W: Write>(out: &mut W, next: usize) -> io::Result<()>
+fn put_next<W: Write>(out: &mut W, next: usize) -> fmt::Result
     ensures { OnOk result (Appends (W.contents out.old) (W.contents out.new)
         (codes " | " ++ decimal next ++ 10 ∷ [])) }
 {
@@ -101,11 +73,11 @@ fn put_next<W: Write>(out: &mut W, next: usize) -> io::Result<()>
     let start = bytes_before(&mut text, ROOM, b"\n");
     let start = number_before(&mut text, start, next as u64);
     let start = bytes_before(&mut text, start, b" | ");
-    out.write_all(&text[start..])
+    put(out, &text[start..])
 }
 
 // An answer without words.
-fn put_short<W: Write>(out: &mut W, said: Said, next: usize) -> io::Result<()>
+fn put_short<W: Write>(out: &mut W, said: Said, next: usize) -> fmt::Result
     ensures { OnOk result (Appends (W.contents out.old) (W.contents out.new)
         (head_text (told_of said.given said.counters) ++ codes " | | " ++ decimal next ++ 10 ∷ [])) }
 {
@@ -114,18 +86,18 @@ fn put_short<W: Write>(out: &mut W, said: Said, next: usize) -> io::Result<()>
     let start = number_before(&mut text, start, next as u64);
     let start = bytes_before(&mut text, start, b" | | ");
     let start = said_before(&mut text, start, said);
-    out.write_all(&text[start..])
+    put(out, &text[start..])
 }
 
 // What is said, and what parts it from the words.
-fn put_head<W: Write>(out: &mut W, said: Said) -> io::Result<()>
+fn put_head<W: Write>(out: &mut W, said: Said) -> fmt::Result
     ensures { OnOk result (Appends (W.contents out.old) (W.contents out.new)
         (head_text (told_of said.given said.counters) ++ codes " |")) }
 {
     let mut text = [0; ROOM];
     let start = bytes_before(&mut text, ROOM, b" |");
     let start = said_before(&mut text, start, said);
-    out.write_all(&text[start..])
+    put(out, &text[start..])
 }
 
 pub(crate) fn put_call<W: Write>(
@@ -133,7 +105,7 @@ pub(crate) fn put_call<W: Write>(
     said: Said,
     words: &[i32],
     next: usize,
-) -> io::Result<()> {
+) -> fmt::Result {
     if words.is_empty() {
         return put_short(out, said, next);
     }
@@ -143,7 +115,7 @@ pub(crate) fn put_call<W: Write>(
 }
 
 // An answer that gives nothing back, and has no words.
-fn put_plain<W: Write>(out: &mut W, head: &[u8], next: usize) -> io::Result<()>
+fn put_plain<W: Write>(out: &mut W, head: &[u8], next: usize) -> fmt::Result
     requires { length head.now ≤ 3 }
     ensures { OnOk result (Appends (W.contents out.old) (W.contents out.new)
         (head.now ++ codes " | | " ++ decimal next ++ 10 ∷ [])) }
@@ -153,12 +125,25 @@ fn put_plain<W: Write>(out: &mut W, head: &[u8], next: usize) -> io::Result<()>
     let start = number_before(&mut text, start, next as u64);
     let start = bytes_before(&mut text, start, b" | | ");
     let start = bytes_before(&mut text, start, head);
-    out.write_all(&text[start..])
+    put(out, &text[start..])
 }
 
-pub(crate) fn put_dump<W: Write>(out: &mut W, db: &Db) -> io::Result<()> {
-    write!(out, "{db}")?;
+// A table without nodes is told as a command that is done.
+pub(crate) fn put_dump<W: Write>(out: &mut W, db: &Db) -> fmt::Result
+    ensures { node_count db.now ≡ 0 → OnOk result (Appends (W.contents out.old) (W.contents out.new)
+        (codes "0 | | " ++ decimal db.now.counters.next ++ 10 ∷ [])) }
+{
+    if db.node_count() == 0 {
+        return put_plain(out, b"0", db.counters.next);
+    }
+    put_nodes(out, db)?;
     put_plain(out, b"", db.counters.next)
+}
+
+// Apart, so that no formatter is made ready for a table without nodes.
+#[inline(never)]
+fn put_nodes<W: Write>(out: &mut W, db: &Db) -> fmt::Result {
+    write!(out, "{db}").map_err(|_| fmt::Error)
 }
 
 // The answer to a command that gives nothing back.
@@ -166,7 +151,7 @@ pub(crate) fn put_done<W: Write>(
     out: &mut W,
     done: Result<(), LineError>,
     next: usize,
-) -> io::Result<()> {
+) -> fmt::Result {
     match done {
         Ok(()) => put_plain(out, b"0 0", next),
         Err(LineError::Unreadable) => put_plain(out, b"bad", next),
@@ -181,16 +166,16 @@ fn front(line: &[u8], n: usize) -> &[u8]
 }
 
 // The line itself, before its answer. One that is passed over has none.
-pub(crate) fn put_line<W: Write>(out: &mut W, line: &[u8], answered: bool) -> io::Result<()>
+pub(crate) fn put_line<W: Write>(out: &mut W, line: &[u8], answered: bool) -> fmt::Result
     ensures answered { answered ≡ true → OnOk result (Appends (W.contents out.old) (W.contents out.new)
         (take LONGEST line.now ++ codes " => ")) }
     ensures passed { answered ≡ false → OnOk result (Appends (W.contents out.old) (W.contents out.new)
         (take LONGEST line.now ++ 10 ∷ [])) }
 {
-    out.write_all(front(line, LONGEST))?;
+    put(out, front(line, LONGEST))?;
     if answered {
-        out.write_all(b" => ")
+        put(out, b" => ")
     } else {
-        out.write_all(b"\n")
+        put(out, b"\n")
     }
 }

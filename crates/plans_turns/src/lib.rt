@@ -7,11 +7,11 @@ mod streams;
 use answers::{put_call, put_done, put_dump, put_line};
 use plans::{Command, LONGEST};
 use plans_rows::Db;
-use std::io;
+use std::fmt;
 use std::io::{BufRead, Read, Write};
 pub use streams::{BUFFER, Filling, Unfailing};
 
-fn turn<W: Write>(db: &mut Db, command: Command<'_>, out: &mut W) -> io::Result<()> {
+fn turn<W: Write>(db: &mut Db, command: Command<'_>, out: &mut W) -> fmt::Result {
     let done = match command {
         Command::Call(call) => {
             let before = db.counters.words;
