@@ -4,7 +4,7 @@
 
 use plans::LONGEST;
 use plans_rows::{Db, OWN, Work};
-use plans_turns::{BUFFER, Filling, Unfailing, play};
+use plans_turns::{BUFFER, Blocks, Filling, Unfailing, play};
 use std::io;
 use std::io::{BufReader, BufWriter};
 
@@ -14,7 +14,8 @@ fn main(rt: HostRuntime) -> io::Result<()> {
     let mut db = Db::new(alloc, OWN, Work { int: 77, byte: 88 })?;
     let mut line = Vec::with_capacity(alloc, LONGEST + 1)?;
     let mut input = BufReader::with_capacity(alloc, BUFFER, Filling::new(rt.reader()))?;
-    let mut out = BufWriter::with_capacity(alloc, BUFFER, Unfailing::new(io::writer(&rt)))?;
+    let out = BufWriter::with_capacity(alloc, BUFFER, Unfailing::new(io::writer(&rt)))?;
+    let mut out = Blocks::new(out);
     play(&mut db, &mut line, &mut input, &mut out, true);
     Ok(())
 }

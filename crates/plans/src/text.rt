@@ -1,4 +1,5 @@
-// Text put together from its last part to its first: so each part is written at once where it belongs, and copied from nowhere.
+// Text put together from its last part to its first: the digits of a number come from the last to the first, and so are written
+// where they belong.
 ghost use Rattle.std.specs.Prelude.{◌≡◌, ◌+◌, ◌≤◌, ◌++◌, drop, length, IsAscii};
 ghost use Rattle.std.specs.Fmt.{decimal, signed_decimal};
 
@@ -15,6 +16,7 @@ pub fn bytes_before(text: &mut [u8], at: usize, bytes: &[u8]) -> usize
     start
 }
 
+// The number in decimal digits.
 #[inline]
 pub fn number_before(text: &mut [u8], at: usize, n: u64) -> usize
     requires room { 20 ≤ at }
@@ -27,6 +29,7 @@ pub fn number_before(text: &mut [u8], at: usize, n: u64) -> usize
     itoa::write_digits(n, text, at)
 }
 
+// The same with a minus in front where there is one.
 #[inline]
 pub fn literal_before(text: &mut [u8], at: usize, x: i32) -> usize
     requires room { 21 ≤ at }

@@ -1,6 +1,6 @@
 // The rows, of which the fronts are lent, with the counters; and the commands that are for the plans alone: `rows`, `poke`,
 // `set`. Memory is taken once, when the rows are made.
-ghost use Rattle.std.specs.Prelude.{◌≡◌, ◌<◌, ◌≤◌, ◌↔◌, IsOk, IfOk, OnOk, OnErr, length, min, replicate, take, slice_set};
+ghost use Rattle.std.specs.Prelude.{◌≡◌, ◌-◌, ◌<◌, ◌≤◌, ◌↔◌, [], IsOk, IfOk, OnOk, OnErr, drop, length, min, replicate, take, slice_set};
 
 use paper::{CELL_LIMIT, Counters, NODE_LIMIT, NODE_WORDS};
 use plans::{Counter, Entry, LONGEST, Lengths, LineError};
@@ -194,8 +194,12 @@ impl Db {
         Ok(())
     }
 
-    // The words of the clause row from `from` on that are in use.
-    pub fn clause_words(&self, from: usize) -> &[i32] {
+    // The words of the clause row from `from` on that are in use; none where they do not lie in what is lent of the row.
+    pub fn clause_words(&self, from: usize) -> &[i32]
+        ensures words { from ≤ self.now.counters.words → self.now.counters.words ≤ (lengths_of self.now).clauses
+            → result.now ≡ take (self.now.counters.words - from) (drop from (take self.now.lent.clauses self.now.clauses.items)) }
+        ensures none { (lengths_of self.now).clauses < self.now.counters.words → result.now ≡ [] }
+    {
         let lent = front(&self.clauses, self.lent.clauses);
         lent.get(from..self.counters.words).unwrap_or(&[])
     }

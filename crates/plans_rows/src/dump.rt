@@ -66,7 +66,7 @@ fn cells_of<'a>(text: &'a mut [u8; PAGE], keys: &[u32], lits: &[i32], marks: &[u
 }
 
 impl Db {
-    // The nodes in use that lie in the row.
+    // The nodes in use that lie in what is lent of their row.
     pub fn node_count(&self) -> usize
         ensures { result ≡ node_count self.now }
     {

@@ -128,7 +128,7 @@ fn put_plain<W: Write>(out: &mut W, head: &[u8], next: usize) -> fmt::Result
     put(out, &text[start..])
 }
 
-// A table without nodes is told as a command that is done.
+// A table without nodes is as short as other answers, and written as they are.
 pub(crate) fn put_dump<W: Write>(out: &mut W, db: &Db) -> fmt::Result
     ensures { node_count db.now ≡ 0 → OnOk result (Appends (W.contents out.old) (W.contents out.new)
         (codes "0 | | " ++ decimal db.now.counters.next ++ 10 ∷ [])) }
@@ -136,13 +136,13 @@ pub(crate) fn put_dump<W: Write>(out: &mut W, db: &Db) -> fmt::Result
     if db.node_count() == 0 {
         return put_plain(out, b"0", db.counters.next);
     }
-    put_nodes(out, db)?;
+    put_table(out, db)?;
     put_plain(out, b"", db.counters.next)
 }
 
 // Apart, so that no formatter is made ready for a table without nodes.
 #[inline(never)]
-fn put_nodes<W: Write>(out: &mut W, db: &Db) -> fmt::Result {
+fn put_table<W: Write>(out: &mut W, db: &Db) -> fmt::Result {
     write!(out, "{db}").map_err(|_| fmt::Error)
 }
 

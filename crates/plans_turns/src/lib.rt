@@ -9,7 +9,7 @@ use plans::{Command, LONGEST};
 use plans_rows::Db;
 use std::fmt;
 use std::io::{BufRead, Read, Write};
-pub use streams::{BUFFER, Filling, Unfailing};
+pub use streams::{BUFFER, Blocks, Filling, Unfailing};
 
 fn turn<W: Write>(db: &mut Db, command: Command<'_>, out: &mut W) -> fmt::Result {
     let done = match command {

@@ -1,11 +1,12 @@
 // Standard input and standard output as the programs over plans take them.
-ghost use Rattle.std.specs.Prelude.{◌≡◌, ◌<◌, IfOk, IsOk, Ok, None, false, true, length};
+ghost use Rattle.std.specs.Prelude.{◌≡◌, ◌-◌, ◌<◌, IfOk, IsOk, Ok, None, false, true, length};
 ghost use Rattle.std.specs.Counts.{IsPrefixLen};
 ghost use Rattle.std.specs.Io.{ReadsAtMost, WritesAtMost};
+ghost use Rattle.std.specs.Io.Buffered.{writer_buffer, writer_capacity, writer_contents};
 ghost use Rattle.std.specs.Io.KnownBytes.{Keeps, ReadConsumes, WriteAppends};
 
 use std::io;
-use std::io::{Read, Write};
+use std::io::{BufWriter, Read, Write};
 
 // The buffers of both.
 pub const BUFFER: usize = 65536;
@@ -92,5 +93,54 @@ impl<W: Write> Write for Unfailing<W> {
     {
         let _ = self.inner.flush();
         Ok(())
+    }
+}
+
+// A buffer that is written when it is full and more comes, in blocks of one length. `BufWriter` alone writes before a part that
+// does not fit: then it would be other bytes that are lost where a write fails and the next one does not.
+#[derive(Drop)]
+pub struct Blocks<W: Write + Drop> {
+    pub inner: BufWriter<W>,
+}
+
+impl<W: Write + Drop> Blocks<W> {
+    pub fn new(inner: BufWriter<W>) -> Blocks<W>
+        ensures { result.inner ≡ inner }
+    {
+        Blocks { inner }
+    }
+
+    // How much more the block takes.
+    #[inline]
+    fn room(&self) -> usize
+        ensures { result ≡ writer_capacity self.now.inner - length (writer_buffer self.now.inner) }
+    {
+        self.inner
+            .capacity()
+            .saturating_sub(self.inner.buffer().len())
+    }
+}
+
+impl<W: Write + Drop> Write for Blocks<W> {
+    ghost contents = { λ b. writer_contents W.contents b.inner };
+
+    fn write(&mut self, buf: &[u8]) -> io::Result<usize> {
+        let room = self.room();
+        let most = if room == 0 { buf.len() } else { room };
+        self.inner.write(&buf[..buf.len().min(most)])
+    }
+
+    fn flush(&mut self) -> io::Result<()> {
+        self.inner.flush()
+    }
+
+    #[inline(always)]
+    fn write_all(&mut self, buf: &[u8]) -> io::Result<()> {
+        let (first, rest) = buf.split_at(buf.len().min(self.room()));
+        self.inner.write_all(first)?;
+        if rest.is_empty() {
+            return Ok(());
+        }
+        self.inner.write_all(rest)
     }
 }
