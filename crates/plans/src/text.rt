@@ -10,6 +10,7 @@ pub fn bytes_before(text: &mut [u8], at: usize, bytes: &[u8]) -> usize
     requires inside { at ≤ length text.old }
     ensures start { result + length bytes.now ≡ at }
     ensures written { drop result text.new ≡ bytes.now ++ drop at text.old }
+    ensures ascii { IsAscii bytes.now → IsAscii (drop at text.old) → IsAscii (drop result text.new) }
 {
     let start = at - bytes.len();
     text[start..at].copy_from_slice(bytes);

@@ -1,6 +1,5 @@
 use Rattle.std.proofs.Common.{arith}
 use Rattle.std.proofs.lemmas.Fmt.{length-decimal-le}
-use Rattle.std.proofs.lemmas.Str.Ascii.{IsAscii-cons}
 use Rattle.plans.proofs.text.literal_before.Goals as goal
 
 pub returns-then-x-ge0-clause-short : goal.returns-then-x-ge0-clause-short
@@ -10,7 +9,3 @@ returns-then-x-ge0-clause-short c =
 pub returns-clause-short : goal.returns-clause-short
 returns-clause-short c =
     omega (arith, length-decimal-le 10 c.unsigned_abs.result (omega arith) (omega arith) (omega arith))
-
-pub returns-clause-ascii : goal.returns-clause-ascii
-returns-clause-ascii c h =
-    rw c.bytes_before.ensures.written (IsAscii-cons 45 _ (omega arith) (c.number_before-start.ensures.ascii h))
