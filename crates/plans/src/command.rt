@@ -3,7 +3,7 @@ ghost use Rattle.std.specs.Prelude.{◌≡◌, ◌≢◌, ◌<◌, ◌↔◌, Is
 ghost use Rattle.plans.specs.Commands.{Fit, direction_of};
 
 use crate::number;
-use crate::words::Words;
+use crate::words::{Words, is_blank};
 use paper::{Pair, Semantics};
 use std::num::ParseIntError;
 use std::str;
@@ -235,10 +235,11 @@ impl<'a> Command<'a> {
             return Err(LineError::Unreadable);
         }
 
-        let words = Words::of(str::from_utf8(line)?)?;
-        if words.is_empty() {
+        // Before the words are parted, which costs more than such a line.
+        if line.iter().all(|b| is_blank(*b)) {
             return Ok(None);
         }
+        let words = Words::of(str::from_utf8(line)?)?;
         Ok(Some(Command::from_words(words.as_slice())?))
     }
 

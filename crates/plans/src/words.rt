@@ -15,7 +15,8 @@ pub struct Words<'a> {
     ghost within: { len ≤ MOST_WORDS },
 }
 
-fn is_blank(b: u8) -> bool
+#[inline]
+pub fn is_blank(b: u8) -> bool
     ensures { IsTrue result ↔ IsBlank b }
 {
     b == b' ' || b == b'\t' || b == b'\r'
@@ -54,12 +55,6 @@ impl<'a> Words<'a> {
         self.words[self.len] = word;
         self.len += 1;
         Ok(())
-    }
-
-    pub fn is_empty(&self) -> bool
-        ensures { IsTrue result ↔ (self.now.len ≡ 0) }
-    {
-        self.len == 0
     }
 
     pub fn as_slice(&self) -> &[&'a str]
