@@ -108,6 +108,7 @@ impl Db {
     // Rows and counters all 0, and the whole of each row lent.
     pub fn new(alloc: Global, n: Lengths, work: Work) -> Result<Db, AllocError>
         ensures lengths { IfOk result (λ db. lengths_of db ≡ n) }
+        ensures whole { IfOk result (λ db. whole db ≡ n) }
         ensures counters { IfOk result (λ db. db.counters ≡ at_start) }
     {
         Ok(Db {
@@ -164,6 +165,7 @@ impl Db {
     pub fn poke(&mut self, i: usize, entry: Entry) -> Result<(), LineError>
         ensures ok { OnOk result (Holds entry i self.new) }
         ensures lengths { lengths_of self.new ≡ lengths_of self.old }
+        ensures whole { whole self.new ≡ whole self.old }
         ensures counters { self.new.counters ≡ self.old.counters }
     {
         let lent = self.lent;
@@ -202,5 +204,36 @@ impl Db {
     {
         let lent = front(&self.clauses, self.lent.clauses);
         lent.get(from..self.counters.words).unwrap_or(&[])
+    }
+}
+
+#[cfg(test)]
+mod tests {
+    use super::*;
+    use std::test::Fail;
+
+    const ASKED: Lengths = Lengths {
+        nodes: 16,
+        inputs: 2,
+        keys: 3,
+        lits: 4,
+        marks: 5,
+        clauses: 6,
+        ints: 7,
+        bytes: 8,
+    };
+
+    // Whatever is lent of them, and is written to them.
+    #[test]
+    fn rows_keep_their_lengths(rt: HostRuntime) -> Result<(), Fail> {
+        let mut db = Db::new(rt.alloc(), ASKED, Work { int: 0, byte: 0 })?;
+        assert_eq!(rt; db.lengths(), ASKED);
+        assert!(rt; db.poke(4, Entry::Marks(3)).is_ok());
+        assert!(rt; db.poke(5, Entry::Marks(3)).is_err());
+        assert_eq!(rt; db.marks.as_slice(), [0, 0, 0, 0, 3].as_slice());
+        assert!(rt; db.lend(Lengths { marks: 4, ..ASKED }).is_ok());
+        assert!(rt; db.poke(4, Entry::Marks(3)).is_err());
+        assert_eq!(rt; db.lengths(), ASKED);
+        Ok(())
     }
 }
