@@ -4,7 +4,7 @@
 
 use plans::LONGEST;
 use plans_rows::{Db, OWN, Work};
-use plans_turns::{BUFFER, Blocks, Filling, Unfailing, play};
+use plans_turns::{BUFFER, Blocks, Filling, Unfailing, play_through};
 use std::io;
 use std::io::{BufReader, BufWriter};
 
@@ -16,6 +16,6 @@ fn main(rt: HostRuntime) -> io::Result<()> {
     let mut input = BufReader::with_capacity(alloc, BUFFER, Filling::new(rt.reader()))?;
     let out = BufWriter::with_capacity(alloc, BUFFER, Unfailing::new(io::writer(&rt)))?;
     let mut out = Blocks::new(out);
-    play(&mut db, &mut line, &mut input, &mut out, true);
+    play_through(&mut db, &mut line, &mut input, &mut out, true);
     Ok(())
 }

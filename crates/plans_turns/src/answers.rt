@@ -13,7 +13,8 @@ use std::io::Write;
 // The parts of an answer are put together from the last to the first, and written at once: a write costs more than its bytes.
 const ROOM: usize = 64;
 
-// An error of the output takes more room than an answer, and nobody is told of it: that there was one is all that is handed on.
+// An error of the output takes more room than an answer: that there was one is all that is handed on. `Telling` keeps it for the
+// one who is told.
 fn put<W: Write>(out: &mut W, text: &[u8]) -> fmt::Result
     ensures { OnOk result (Appends (W.contents out.old) (W.contents out.new) text.now) }
 {

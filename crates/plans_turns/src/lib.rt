@@ -6,9 +6,11 @@ mod streams;
 
 use answers::{put_call, put_done, put_dump, put_line};
 use plans::{Command, LONGEST};
-use plans_rows::Db;
-use std::fmt;
+use plans_rows::{Db, OWN, Work};
+use std::alloc::Global;
 use std::io::{BufRead, Read, Write};
+use std::{fmt, io};
+use streams::Telling;
 pub use streams::{BUFFER, Blocks, Filling, Unfailing};
 
 fn turn<W: Write>(db: &mut Db, command: Command<'_>, out: &mut W) -> fmt::Result {
@@ -46,7 +48,7 @@ fn next_line<R: BufRead>(input: &mut R, line: &mut Vec<u8>) -> bool {
 // An answer for each line, to the end of the input; `beside` has each line stand before its answer. What cannot be written is
 // passed over. `line` holds a line at a time, and grows only where its capacity is not `LONGEST + 1` yet. Before the first
 // `rows` or `fresh` the rows are as long as they were made, and the counters are 0.
-pub fn play<R: BufRead, W: Write>(
+pub fn play_through<R: BufRead, W: Write>(
     db: &mut Db,
     line: &mut Vec<u8>,
     input: &mut R,
@@ -71,10 +73,46 @@ pub fn play<R: BufRead, W: Write>(
     let _ = out.flush();
 }
 
+// The answer to a line, as far as it can be written.
+fn put_answer<W: Write>(db: &mut Db, line: &[u8], out: &mut W, beside: bool) -> fmt::Result {
+    let command = Command::parse(line);
+    if beside {
+        put_line(out, line, !matches!(command, Ok(None)))?;
+    }
+    match command {
+        Ok(None) => Ok(()),
+        Ok(Some(command)) => turn(db, command, out),
+        Err(error) => put_done(out, Err(error), db.counters.next),
+    }
+}
+
+// The answers of `play_through`, on rows of its own, which are as long as they can be. A write that fails ends them: its line is
+// the last that is read, and its error is told, as are a flush that fails and a lack of memory for the rows.
+pub fn play<R: BufRead, W: Write>(
+    alloc: Global,
+    input: &mut R,
+    out: &mut W,
+    work: Work,
+    beside: bool,
+) -> io::Result<()> {
+    let mut db = Db::new(alloc, OWN, work)?;
+    let mut line = Vec::with_capacity(alloc, LONGEST + 1)?;
+    let mut out = Telling::new(out);
+    for _ in 0..u64::MAX {
+        if !next_line(input, &mut line) {
+            break;
+        }
+        if put_answer(&mut db, &line, &mut out, beside).is_err() {
+            return Err(out.error());
+        }
+    }
+    out.flush()
+}
+
 #[cfg(test)]
 mod tests {
     use super::*;
-    use plans_rows::{OWN, Work};
+    use std::io::BufWriter;
     use std::str;
     use std::test::Fail;
 
@@ -97,8 +135,41 @@ mod tests {
         let mut out = Vec::new(alloc);
         let mut db = Db::new(alloc, OWN, Work { int: 3, byte: 4 })?;
         let mut line = Vec::with_capacity(alloc, LONGEST + 1)?;
-        play(&mut db, &mut line, &mut input, &mut out, true);
+        play_through(&mut db, &mut line, &mut input, &mut out, true);
         assert_eq!(rt; str::from_utf8(&out)?, BESIDE);
+        Ok(())
+    }
+
+    fn lines(text: &[u8]) -> usize {
+        text.iter().filter(|b| **b == b'\n').count()
+    }
+
+    // Wherever the room ends. The line that is not answered is read, and the last of the plan has no end.
+    #[test]
+    fn failed_write_is_told(rt: HostRuntime) -> Result<(), Fail> {
+        let alloc = rt.alloc();
+        let work = Work { int: 3, byte: 4 };
+        for room in 0..BESIDE.len() {
+            let mut input = PLAN.as_bytes();
+            let mut text = vec![in alloc; 0; room]?;
+            let told = play(alloc, &mut input, &mut text.as_mut_slice(), work, true);
+            assert!(rt; told.is_err_and(|error| error.kind() == io::ErrorKind::WriteZero));
+            let (kept, lost) = BESIDE.as_bytes().split_at(room);
+            assert_eq!(rt; text.as_slice(), kept);
+            assert_eq!(rt; lines(input), lines(lost).saturating_sub(2));
+        }
+        Ok(())
+    }
+
+    #[test]
+    fn what_is_told_is_flushed(rt: HostRuntime) -> Result<(), Fail> {
+        let alloc = rt.alloc();
+        let mut input = PLAN.as_bytes();
+        let mut out = BufWriter::with_capacity(alloc, BUFFER, Vec::new(alloc))?;
+        let work = Work { int: 3, byte: 4 };
+        play(alloc, &mut input, &mut out, work, true)?;
+        assert_eq!(rt; str::from_utf8(out.get_ref())?, BESIDE);
+        assert!(rt; input.is_empty());
         Ok(())
     }
 

@@ -1,9 +1,9 @@
-// Standard input and standard output as the programs over plans take them.
-ghost use Rattle.std.specs.Prelude.{◌≡◌, ◌-◌, ◌<◌, IfOk, IsOk, Ok, None, false, true, length};
+// Standard input and standard output as the programs over plans take them, and a writer that keeps an error.
+ghost use Rattle.std.specs.Prelude.{◌≡◌, ◌-◌, ◌<◌, IfOk, IfErr, IsOk, IsSome, OnOk, Ok, None, Some, false, true, length};
 ghost use Rattle.std.specs.Counts.{IsPrefixLen};
 ghost use Rattle.std.specs.Io.{ReadsAtMost, WritesAtMost};
 ghost use Rattle.std.specs.Io.Buffered.{writer_buffer, writer_capacity, writer_contents};
-ghost use Rattle.std.specs.Io.KnownBytes.{Keeps, ReadConsumes, WriteAppends};
+ghost use Rattle.std.specs.Io.KnownBytes.{Appends, Keeps, ReadConsumes, WriteAppends};
 
 use std::io;
 use std::io::{BufWriter, Read, Write};
@@ -93,6 +93,55 @@ impl<W: Write> Write for Unfailing<W> {
     {
         let _ = self.inner.flush();
         Ok(())
+    }
+}
+
+// A writer that keeps the error of a `write_all` that fails, for those who are handed less than the error.
+#[derive(Drop)]
+pub(crate) struct Telling<W> {
+    pub inner: W,
+    pub failed: Option<io::Error>,
+}
+
+impl<W> Telling<W> {
+    pub fn new(inner: W) -> Telling<W>
+        ensures inner { result.inner ≡ inner }
+        ensures failed { result.failed ≡ None }
+    {
+        Telling {
+            inner,
+            failed: None,
+        }
+    }
+
+    // The error that is kept, where there is one.
+    pub fn error(&self) -> io::Error
+        ensures { IsSome self.now.failed → self.now.failed ≡ Some result }
+    {
+        self.failed.unwrap_or(io::Error::from(io::ErrorKind::Other))
+    }
+}
+
+impl<W: Write> Write for Telling<W> {
+    ghost contents = { λ t. W.contents t.inner };
+
+    fn write(&mut self, buf: &[u8]) -> io::Result<usize> {
+        self.inner.write(buf)
+    }
+
+    fn flush(&mut self) -> io::Result<()> {
+        self.inner.flush()
+    }
+
+    fn write_all(&mut self, buf: &[u8]) -> io::Result<()>
+        ensures bytes { OnOk result (Appends (W.contents self.old.inner) (W.contents self.new.inner) buf.now) }
+        ensures kept { IfErr result (λ e. self.new.failed ≡ Some e) }
+    {
+        let done = self.inner.write_all(buf);
+        if let Err(error) = done {
+            self.failed = Some(error);
+        }
+        done
     }
 }
 
